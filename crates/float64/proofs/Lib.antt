@@ -1,0 +1,6 @@
+pub mod Small
+pub mod Patterns
+pub mod Rounded
+pub mod Digits
+pub mod Normal
+pub mod RootOfBits

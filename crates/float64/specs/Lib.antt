@@ -1,0 +1,11 @@
+pub mod Operators
+pub mod WholeRoot
+pub mod Functions
+pub mod Compute
+pub mod Units
+pub mod Patterns
+pub mod Order
+pub mod Nonneg
+pub mod RootLaws
+pub mod RoundLaws
+pub mod RemainderLaws

@@ -1,0 +1,215 @@
+-- The truncated remainder of two doubles is exact (`rem-exact`), so `remEuclid` rounds at most once, in its sum (`rem-euclid-exact`; `rem-euclid-special` has NaN, the infinities and a zero divisor).
+-- Why: the remainder is a multiple of the lower of the two last places, and it is less than y and not more than x, one of which has at most 53 digits from that place on. Assumes nothing.
+use mathlib.Core.Path.{_≡_, refl, sym, ap, ap₂, _∙_, subst}
+use mathlib.Core.Bool.{Bool, true, false, not, cond, true≢false, false≢true}
+use mathlib.Core.Logic.{_⊎_, inl, inr}
+use Prim.Native.Nat.{ℕ, zero, _+_, _-_, _*_, _/_, _%_, _^_, _≤_, _<_}
+use native.Mathlib.Nat.{le-trans, le-of-lt, lt-of-le-of-lt, sub-add-cancel, zero-mul, mul-comm, mul-assoc, mul-right-comm, add-mul, mul-sub, mul-pos, mul-le-mul-right, mul-lt-mul-of-pos-right, lt-of-mul-lt-mul-right, eq-of-mul-eq-mul-right, mod-lt, mod-le, sub-le, le-of-eq, eq-zero-or-pos, div-add-mod'}
+use native.Mathlib.Omega.{arith}
+use lib.IntN.{ℤ}
+use lib.Dec.{T, leb, leb→le, nleb→lt}
+use lib.Arith.{digits-mod}
+use lib.Pow.{pow-add, pow-pos}
+use lib.Ieee.{Float, nan, inf, fin, Format, binary64, up, down, units, round, sum, add, rem, lt, le, ofBits, fits}
+use lib.Ieee.Fits.{up-pos, down-pos}
+use lib.Ieee.Exact.{HasValue, round-exact}
+use lib.Ieee.Order.{kept, round-mono}
+use lib.Ieee.Scale.{round-same}
+use lib.Ieee.Positive.{first-pos}
+use borrow.Author.Tests.{lt-ltb, le-ltb, ne-eqb}
+use Rattle.float64.specs.Operators.{_⊕_, 0·}
+use Rattle.float64.specs.Functions.{isFinite, abs, remEuclid}
+use Rattle.float64.specs.Nonneg.{nonneg-not-below, round-nonneg}
+use Rattle.float64.specs.Units.{double, units-counted}
+
+-- ---- remainders of multiples
+
+mod-scale : (x y c : ℕ) → 0 < y → 0 < c → x * c % (y * c) ≡ x % y * c
+mod-scale x y c Y C =
+    ap (λ (z : ℕ). z % (y * c)) (ap (λ (z : ℕ). z * c) (sym (div-add-mod' x y)) ∙ add-mul (x / y * y) (x % y) c ∙ ap (λ (z : ℕ). z + x % y * c) (mul-assoc (x / y) y c))
+    ∙ digits-mod (x / y) (mul-lt-mul-of-pos-right (mod-lt x Y) C)
+
+raise : (n i j : ℕ) → j ≤ i → n * 2 ^ i ≡ n * 2 ^ (i - j) * 2 ^ j
+raise n i j h = ap (λ (z : ℕ). n * z) (ap (λ (z : ℕ). 2 ^ z) (sym (sub-add-cancel h)) ∙ pow-add 2 (i - j) j) ∙ sym (mul-assoc n (2 ^ (i - j)) (2 ^ j))
+
+-- with the lower of the two exponents taken out, the remainder is no longer than the significand that has it
+short : (p m j n i : ℕ) → m < 2 ^ p → n < 2 ^ p → 0 < n → (q : ℕ) × (k : ℕ) × (q < 2 ^ p) × (m * 2 ^ j % (n * 2 ^ i) ≡ q * 2 ^ k)
+short p m j n i M N P = go (leb j i) (leb→le j i) (nleb→lt j i)
+  where
+    go : (b : Bool) → (T b → j ≤ i) → (T (not b) → i < j) → (q : ℕ) × (k : ℕ) × (q < 2 ^ p) × (m * 2 ^ j % (n * 2 ^ i) ≡ q * 2 ^ k)
+    go true h g = (
+      m % (n * 2 ^ (i - j)),
+      j,
+      lt-of-le-of-lt (mod-le m (n * 2 ^ (i - j))) M,
+      ap (λ (z : ℕ). m * 2 ^ j % z) (raise n i j (h tt)) ∙ mod-scale m (n * 2 ^ (i - j)) (2 ^ j) (mul-pos P (pow-pos (i - j))) (pow-pos j),
+    )
+    go false h g = (
+      m * 2 ^ (j - i) % n,
+      i,
+      lt-of-le-of-lt (le-of-lt (mod-lt (m * 2 ^ (j - i)) P)) N,
+      ap (λ (z : ℕ). z % (n * 2 ^ i)) (raise m j i (le-of-lt (g tt))) ∙ mod-scale (m * 2 ^ (j - i)) n (2 ^ i) P (pow-pos i),
+    )
+
+-- ---- the remainder
+
+-- over the denominator w * v, m * u / w is m * z units of 1 / l
+counted : (m u v w l z : ℕ) → u * l ≡ z * w → m * u * v * l ≡ m * z * (w * v)
+counted m u v w l z h = mul-right-comm (m * u) v l ∙ ap (λ (p : ℕ). p * v) (mul-assoc m u l ∙ ap (λ (p : ℕ). m * p) h ∙ sym (mul-assoc m z w)) ∙ mul-assoc (m * z) w v
+
+-- what `rem` rounds is a value of the format already
+round-rem : (s : Bool) (m : ℕ) (e : ℤ) (t : Bool) (n : ℕ) (d : ℤ) → T (fits binary64 (fin s m e)) → T (fits binary64 (fin t n d)) → 0 < n
+    → HasValue (round binary64 s (m * up e * down d % (n * up d * down e)) (down e * down d)) s (m * up e * down d % (n * up d * down e)) (down e * down d)
+round-rem s m e t n d F G N =
+    let l = 2 ^ 1074 in
+    let a = m * up e * down d in
+    let b = n * up d * down e in
+    let c = down e * down d in
+    let C : 0 < c = mul-pos (down-pos e) (down-pos d) in
+    let X = double s m e F in
+    let Y = double t n d G in
+    let j = X .shift in
+    let i = Y .shift in
+    let (q, k, Q, r) = short 53 m j n i (X .short) (Y .short) N in
+    let A : a * l ≡ m * 2 ^ j * c = counted m (up e) (down d) (down e) l (2 ^ j) (X .scaled) in
+    let B : b * l ≡ n * 2 ^ i * c = counted n (up d) (down e) (down d) l (2 ^ i) (Y .scaled) ∙ ap (λ (z : ℕ). n * 2 ^ i * z) (mul-comm (down d) (down e)) in
+    round-exact binary64 s (a % b) c q k C Q (subst (λ (z : ℕ). z < 2 ^ 2098) r (lt-of-le-of-lt (mod-le (m * 2 ^ j) (n * 2 ^ i)) (X .under)))
+    (sym (mod-scale a b l (mul-pos (mul-pos N (up-pos d)) (down-pos e)) (pow-pos 1074))
+    ∙ ap₂ (λ (z w : ℕ). z % w) A B
+    ∙ mod-scale (m * 2 ^ j) (n * 2 ^ i) c (mul-pos N (pow-pos i)) C
+    ∙ ap (λ (z : ℕ). z * c) r)
+
+pub rem-exact : (s : Bool) (m : ℕ) (e : ℤ) (t : Bool) (n : ℕ) (d : ℤ) → T (fits binary64 (fin s m e)) → T (fits binary64 (fin t n d)) → 0 < n
+    → HasValue (rem binary64 (fin s m e) (fin t n d)) s (m * up e * down d % (n * up d * down e)) (down e * down d)
+unfolding rem
+rem-exact s m e t n d F G N =
+    let r = m * up e * down d % (n * up d * down e) in
+    let c = down e * down d in
+    subst (λ (b : Bool). HasValue (cond b nan (round binary64 s r c)) s r c) (sym (ne-eqb n 0 (λ z. omega arith))) (round-rem s m e t n d F G N)
+
+-- ---- `remEuclid`
+
+sub-mul : (m n k : ℕ) → (m - n) * k ≡ m * k - n * k
+sub-mul m n k = mul-comm (m - n) k ∙ mul-sub k m n ∙ ap₂ (λ (x y : ℕ). x - y) (mul-comm k m) (mul-comm k n)
+
+-- -a / c + b / c, rounded once, for a below b
+sum-once : (f : Format) (x : Float) (n : ℕ) (d : ℤ) (a b c : ℕ) → 0 < c → HasValue x true a c → HasValue (fin false n d) false b c → a < b → add f x (fin false n d) ≡ round f false (b - a) c
+unfolding add sum
+sum-once f (fin true m e) n d a b c C (_, h) (_, k) less =
+    let A = m * up e * down d in
+    let B = n * up d * down e in
+    let z = down e * down d in
+    let Z : 0 < z = mul-pos (down-pos e) (down-pos d) in
+    let p : A * c ≡ a * z = mul-right-comm (m * up e) (down d) c ∙ ap (λ (w : ℕ). w * down d) h ∙ mul-assoc a (down e) (down d) in
+    let q : B * c ≡ b * z = mul-right-comm (n * up d) (down e) c ∙ ap (λ (w : ℕ). w * down e) k ∙ mul-right-comm b (down d) (down e) ∙ mul-assoc b (down e) (down d) in
+    let o : A < B = lt-of-mul-lt-mul-right c (rw (p, q) (mul-lt-mul-of-pos-right less Z)) in
+    rw (lt-ltb A B o) (round-same f false (B - A) z (b - a) c Z C (simp (sub-mul, p, q)))
+sum-once f (fin false m e) n d a b c C (h, _) k less = absurd (false≢true h)
+
+zero-size : (x a c d : ℕ) → 0 < c → x * c ≡ a * d → a ≡ 0 → x ≡ 0
+zero-size x a c d C h z = eq-of-mul-eq-mul-right c C x 0 (h ∙ simp (z, zero-mul))
+
+not-below : (x : Float) (s : Bool) (a c : ℕ) → 0 < c → HasValue x s a c → (s ≡ false) ⊎ (a ≡ 0) → lt x 0· ≡ false
+unfolding lt ofBits
+not-below (fin true m e) s a c C (h, k) (inl z) = absurd (true≢false (h ∙ z))
+not-below (fin true m e) s a c C (h, k) (inr z) = le-ltb 0 (m * up e * 1 + 0 * 1 * down e) (omega (arith, zero-size (m * up e) a c (down e) C k z))
+not-below (fin false m e) s a c C h o = le-ltb (m * up e * 1) (0 * 1 * down e) (omega arith)
+
+below : (x : Float) (a c : ℕ) → HasValue x true a c → 0 < a → lt x 0· ≡ true
+unfolding lt ofBits
+below (fin true m e) a c (_, h) A = lt-ltb 0 (m * up e * 1 + 0 * 1 * down e) (omega (arith, first-pos (m * up e) c (subst (λ (z : ℕ). 0 < z) (sym h) (mul-pos A (down-pos e)))))
+below (fin false m e) a c (h, _) A = absurd (false≢true h)
+
+finite-of-le : (x y : Float) (a c : ℕ) → lt x 0· ≡ false → HasValue y false a c → T (le x y) → isFinite x ≡ true
+unfolding isFinite lt le ofBits
+finite-of-le nan y a c n h l = absurd l
+finite-of-le (inf true) y a c n h l = absurd (true≢false n)
+finite-of-le (inf false) (fin s m e) a c n h l = absurd l
+finite-of-le (fin s m e) y a c n h l = refl
+
+finite-of-value : (x : Float) (s : Bool) (a c : ℕ) → HasValue x s a c → isFinite x ≡ true
+unfolding isFinite
+finite-of-value (fin t m e) s a c h = refl
+
+-- what is not larger than a double rounds to a finite value
+finite-below : (t : Bool) (n : ℕ) (d : ℤ) (a c : ℕ) → T (fits binary64 (fin t n d)) → 0 < c → a * down d ≤ n * up d * c → isFinite (round binary64 false a c) ≡ true
+finite-below t n d a c G C h =
+    let D = double t n d G in
+    let own : HasValue (round binary64 false (n * up d) (down d)) false (n * up d) (down d) =
+    round-exact binary64 false (n * up d) (down d) n (D .shift) (down-pos d) (D .short) (D .under) (units-counted D) in
+    finite-of-le (round binary64 false a c) (round binary64 false (n * up d) (down d)) (n * up d) (down d) (nonneg-not-below (round-nonneg binary64 a c)) own (round-mono binary64 a c (n * up d) (down d) C (down-pos d) h)
+
+-- where the remainder r of an x with the sign s is the answer, and where y's size is added to it
+keeps-or-moves : (s : Bool) (r : ℕ) → ((s ≡ false) ⊎ (r ≡ 0)) ⊎ ((s ≡ true) × (0 < r))
+keeps-or-moves false r = inl (inl refl)
+keeps-or-moves true r = elim (eq-zero-or-pos r) [ inl z ↦ inl (inr z) | inr p ↦ inr (refl, p) ]
+
+-- What `remEuclid` answers for finite x and y, y not 0. Over one denominator c, x has the sign s and the size a, and y the size b.
+-- So a / b is the whole quotient of the sizes, and a % b over c is the remainder, below the size of y.
+pub record RemEuclidExact (x y : Float) (s : Bool) (a b c : ℕ) : Type 0 where
+  pub dividend : HasValue x s a c
+  pub divisor : HasValue (abs y) false b c
+  pub divided : a / b * b + a % b ≡ a
+  pub smaller : a % b < b
+  -- x % y is the remainder with x's sign: nothing is rounded
+  pub remainder : HasValue (rem binary64 x y) s (a % b) c
+  -- it is the answer where x is not negative, and where it is 0, a zero with x's sign
+  pub kept : (s ≡ false) ⊎ (a % b ≡ 0) → remEuclid x y ≡ rem binary64 x y
+  -- and else y's size is added to it: the one rounding, of b - a % b over c
+  pub moved : s ≡ true → 0 < a % b → (remEuclid x y ≡ rem binary64 x y ⊕ abs y) × (remEuclid x y ≡ round binary64 false (b - a % b) c)
+  -- the answer is a number that is not below 0
+  pub finite : isFinite (remEuclid x y) ≡ true
+  pub not-negative : lt (remEuclid x y) 0· ≡ false
+
+pub rem-euclid-exact : (s : Bool) (m : ℕ) (e : ℤ) (t : Bool) (n : ℕ) (d : ℤ) → T (fits binary64 (fin s m e)) → T (fits binary64 (fin t n d)) → 0 < n
+    → RemEuclidExact (fin s m e) (fin t n d) s (m * up e * down d) (n * up d * down e) (down e * down d)
+unfolding remEuclid abs
+rem-euclid-exact s m e t n d F G N =
+    let a = m * up e * down d in
+    let b = n * up d * down e in
+    let c = down e * down d in
+    let r = rem binary64 (fin s m e) (fin t n d) in
+    let answer = remEuclid (fin s m e) (fin t n d) in
+    let C : 0 < c = mul-pos (down-pos e) (down-pos d) in
+    let less : a % b < b = mod-lt a (mul-pos (mul-pos N (up-pos d)) (down-pos e)) in
+    let y-is : HasValue (fin false n d) false b c = (refl, sym (mul-assoc (n * up d) (down e) (down d))) in
+    let r-is : HasValue r s (a % b) c = rem-exact s m e t n d F G N in
+    let kept : (s ≡ false) ⊎ (a % b ≡ 0) → answer ≡ r = λ o. rw (not-below r s (a % b) c C r-is o) in
+    let moved : s ≡ true → 0 < a % b → (answer ≡ r ⊕ fin false n d) × (answer ≡ round binary64 false (b - a % b) c) = λ o p.
+    let v : HasValue r true (a % b) c = subst (λ (z : Bool). HasValue r z (a % b) c) o r-is in
+    let sum : answer ≡ r ⊕ fin false n d = rw (below r (a % b) c v p) in
+    (sum, sum ∙ sum-once binary64 r n d (a % b) b c C v y-is less) in
+    record {
+      dividend = (refl, sym (mul-assoc (m * up e) (down e) (down d)) ∙ mul-right-comm (m * up e) (down e) (down d));
+      divisor = y-is;
+      divided = div-add-mod' a b;
+      smaller = less;
+      remainder = r-is;
+      kept = kept;
+      moved = moved;
+      finite = elim (keeps-or-moves s (a % b)) [ inl o ↦ rw (kept o) (finite-of-value r s (a % b) c r-is) | inr h ↦ rw (moved (h .0) (h .1) .1) (finite-below t n d (b - a % b) c G C (le-trans (mul-le-mul-right (down d) (sub-le b (a % b))) (le-of-eq (mul-assoc (n * up d) (down e) (down d))))) ];
+      not-negative = elim (keeps-or-moves s (a % b)) [ inl o ↦ rw (kept o) (not-below r s (a % b) c C r-is o) | inr h ↦ rw (moved (h .0) (h .1) .1) (nonneg-not-below (round-nonneg binary64 (b - a % b) c)) ];
+    }
+
+by-nan : (x : Float) → remEuclid x nan ≡ nan
+unfolding remEuclid rem lt
+by-nan nan = refl
+by-nan (inf s) = refl
+by-nan (fin s m e) = refl
+
+by-zero : (x : Float) (t : Bool) (d : ℤ) → remEuclid x (fin t 0 d) ≡ nan
+unfolding remEuclid rem lt
+by-zero nan t d = refl
+by-zero (inf s) t d = refl
+by-zero (fin s m e) t d = refl
+
+-- a NaN or an infinity on either side, and a divisor that is 0
+pub record RemEuclidSpecial : Type 0 where
+  pub of-nan : (y : Float) → remEuclid nan y ≡ nan
+  pub of-infinity : (s : Bool) (y : Float) → remEuclid (inf s) y ≡ nan
+  pub by-nan : (x : Float) → remEuclid x nan ≡ nan
+  pub by-zero : (x : Float) (t : Bool) (d : ℤ) → remEuclid x (fin t 0 d) ≡ nan
+  pub by-infinity : (s : Bool) (m : ℕ) (e : ℤ) (t : Bool) → remEuclid (fin s m e) (inf t) ≡ cond (lt (fin s m e) 0·) (inf false) (fin s m e)
+
+pub rem-euclid-special : RemEuclidSpecial
+unfolding remEuclid abs rem add lt
+rem-euclid-special = record { of-nan = λ y. refl; of-infinity = λ s y. refl; by-nan = by-nan; by-zero = by-zero; by-infinity = λ s m e t. refl }
