@@ -1,6 +1,6 @@
 -- `float64_vectors::replay` is safe and ends. The invariant: no count is above the number of records passed. The measure is how many more may be read. Assumes nothing.
 use mathlib.Core.Path.{_≡_}
-use mathlib.Core.List.{List, _∷_}
+use mathlib.Core.List.{List, [], _∷_}
 use Prim.Native.Nat.{ℕ, zero, suc, _+_, _-_, _≤_}
 use native.Mathlib.Omega.{arith}
 use lib.ListN.{length, getD, set, replicate}
