@@ -10,6 +10,7 @@ use lib.IntN.{ℤ}
 use lib.Dec.{leb, ltb, eqb}
 use lib.Ieee.{Float, nan, inf, fin, up, down, below, level, lt, le, eq, isNan}
 use lib.Ieee.Fits.{down-pos}
+use Rattle.float64.specs.Functions.{isFinite}
 use borrow.Author.Tests.{leb-true, leb-false, eqb-true, lt-ltb, le-ltb, le-leb, eq-eqb, ne-eqb, not-true}
 
 -- ---- tests
@@ -19,7 +20,7 @@ agree true q f g = sym (f refl)
 agree false true f g = g refl
 agree false false f g = refl
 
-never : (t : Bool) → (t ≡ true → ⊥) → t ≡ false
+pub never : (t : Bool) → (t ≡ true → ⊥) → t ≡ false
 never true f = absurd (f refl)
 never false f = refl
 
@@ -179,6 +180,11 @@ lt→not-le x y h =
     let n = le→number x y (lt→le x y h) in
     not-true (le y x) (sym (lt-not-le x y (n .0) (n .1)) ∙ h)
 
+pub le→not-lt : (x y : Float) → le x y ≡ true → lt y x ≡ false
+le→not-lt x y h =
+    let n = le→number x y h in
+    not-true (lt y x) (sym (le-not-lt x y (n .0) (n .1)) ∙ h)
+
 pub lt-irrefl : (x : Float) → lt x x ≡ false
 lt-irrefl x = never (lt x x) (λ h. true≢false (sym (lt→le x x h) ∙ lt→not-le x x h))
 
@@ -192,6 +198,12 @@ le-lt-trans x y z h k =
 
 pub lt-trans : (x y z : Float) → lt x y ≡ true → lt y z ≡ true → lt x z ≡ true
 lt-trans x y z h k = lt-le-trans x y z h (lt→le y z k)
+
+pub finite→number : (x : Float) → isFinite x ≡ true → isNan x ≡ false
+unfolding isFinite isNan
+finite→number nan h = absurd (false≢true h)
+finite→number (inf s) h = refl
+finite→number (fin s m e) h = refl
 
 -- ---- equal numbers
 pub eq-le-le : (x y : Float) → eq x y ≡ (le x y && le y x)

@@ -367,8 +367,4 @@ monotone all all f g l = refl
 pub root-monotone : (x y : Float) → T (fits binary64 x) → T (fits binary64 y) → lt x 0· ≡ false → le x y ≡ true → le (root x) (root y) ≡ true
 root-monotone x y f g h l =
     let (p, q) = Order.le→number x y l in
-    monotone (rooted x p h) (rooted y q (not-below (lt y 0·) (λ k. true≢false (sym (Order.le-lt-trans x y 0· l k) ∙ h)))) f g l
-  where
-    not-below : (t : Bool) → (t ≡ true → ⊥) → t ≡ false
-    not-below true k = absurd (k refl)
-    not-below false k = refl
+    monotone (rooted x p h) (rooted y q (Order.never (lt y 0·) (λ k. true≢false (sym (Order.le-lt-trans x y 0· l k) ∙ h)))) f g l

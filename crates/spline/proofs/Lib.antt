@@ -1,0 +1,2 @@
+pub mod WeightSteps
+pub mod KnotSteps
