@@ -1,0 +1,4 @@
+pub mod Patch
+pub mod Compute
+pub mod Laws
+pub mod Examples
