@@ -1,0 +1,3 @@
+pub mod CheckSteps
+pub mod SumSteps
+pub mod EvaluateSteps

@@ -1,0 +1,120 @@
+-- The loops of an evaluation, each a fold of so many turns, and what of a surface they read. Assumes nothing.
+use mathlib.Core.Path.{_≡_, refl, sym, ap, _∙_}
+use mathlib.Core.List.{List, [], _∷_}
+use Prim.Native.Nat.{ℕ, zero, suc, _+_, _-_, _*_, _≤_, _<_}
+use native.Mathlib.Nat.{add-suc, suc-mul, mul-le-mul-right}
+use native.Mathlib.Numerals.{add-one}
+use native.Mathlib.Omega.{arith}
+use lib.ListN.{length, getD, length-replicate}
+use lib.Ieee.{Float, nan}
+use Rattle.float64.specs.Operators.{_⊘_}
+use Rattle.float64.specs.Functions.{max}
+use Rattle.vector3.specs.declared.Vector3.{Vector3}
+use Rattle.basis.specs.declared.Basis.{Basis}
+use Rattle.basis.specs.Basis.{Three, three, threes}
+use Rattle.patch.specs.declared.Sums.{Sums}
+use Rattle.patch.specs.Patch.{with}
+use Rattle.surface.specs.Surface.{Surface, weightAt, pointAt, heaviestAlong, heaviest, along, over}
+use Rattle.surface.specs.Lent.{lent, arrays, counted, Within}
+
+-- `fold k i` makes k turns, from number i on
+pub record Fold {T : Type 0} (turn : ℕ → T → T) (fold : ℕ → ℕ → T → T) : Type 0 where
+  pub none : (i : ℕ) (t : T) → fold 0 i t ≡ t
+  pub more : (k i : ℕ) (t : T) → fold (suc k) i t ≡ fold k (suc i) (turn i t)
+
+-- a loop of n turns, before number i: the whole is what is left
+module _ {T : Type 0} {turn : ℕ → T → T} {fold : ℕ → ℕ → T → T} (f : Fold turn fold) (n i : ℕ) (t whole : T) (e : whole ≡ fold (n - i) i t) where
+  pub go : i < n → (x : T) → x ≡ turn i t → whole ≡ fold (n - (i + 1)) (i + 1) x
+  go h x p =
+      let q : n - i ≡ suc (n - suc i) = omega arith in
+      e ∙ ap (λ (k : ℕ). fold k i t) q ∙ f .more _ i t ∙ rw (add-one, p)
+
+  pub stop : n ≤ i → t ≡ whole
+  stop h =
+      let q : n - i ≡ 0 = omega arith in
+      sym (e ∙ ap (λ (k : ℕ). fold k i t) q ∙ f .none i t)
+
+-- row number k of a patch ends in the net
+pub row-inside : {i rows j columns n size : ℕ} (k : ℕ) → Within i rows j columns n size → k < rows → (i + k) * n + j + columns ≤ size
+row-inside {i} {rows} {j} {columns} {n} k w h = omega (arith, suc-mul (i + k) n, mul-le-mul-right {m = suc (i + k)} {n = i + rows} n (omega arith))
+
+row-next : (i j n c : ℕ) → (i + suc j) * n + c ≡ (i + j) * n + c + n
+row-next i j n c = omega (arith, suc-mul (i + j) n)
+
+-- ---- what is read of a surface, and of the functions where only weights count
+
+module _ (s : Surface) (m : Float) where
+  heaviest-along-lent : (n : ℕ) (bs : List Three) (i : ℕ) (w : Float) → heaviestAlong s m bs i w ≡ heaviestAlong (lent [] (s .weights) n) m (counted (length bs)) i w
+  unfolding heaviestAlong
+  heaviest-along-lent n [] i w = refl
+  heaviest-along-lent n (b ∷ bs) i w = heaviest-along-lent n bs (suc i) _
+
+  pub heaviest-lent : (cs bs : List Three) (i : ℕ) (w : Float)
+      → heaviest s m cs bs i w ≡ heaviest (lent [] (s .weights) (s .shape .v .controls)) m (counted (length cs)) (counted (length bs)) i w
+  unfolding heaviest
+  heaviest-lent [] bs i w = refl
+  heaviest-lent (a ∷ cs) bs i w =
+      let n = s .shape .v .controls in
+      heaviest-lent cs bs (i + n) _ ∙ ap (heaviest (lent [] (s .weights) n) m (counted (length cs)) (counted (length bs)) (i + n)) (heaviest-along-lent n bs i w)
+
+  module _ (k : Float) where
+    along-lent : (n : ℕ) (a : Three) (bs : List Three) (i : ℕ) (t : Sums) → along s m k a bs i t ≡ along (lent (s .controls) (s .weights) n) m k a bs i t
+    unfolding along
+    along-lent n a [] i t = refl
+    along-lent n a (b ∷ bs) i t = along-lent n a bs (suc i) _
+
+    pub over-lent : (cs bs : List Three) (i : ℕ) (t : Sums) → over s m k cs bs i t ≡ over (lent (s .controls) (s .weights) (s .shape .v .controls)) m k cs bs i t
+    unfolding over
+    over-lent [] bs i t = refl
+    over-lent (a ∷ cs) bs i t =
+        let n = s .shape .v .controls in
+        over-lent cs bs (i + n) _ ∙ ap (over (lent (s .controls) (s .weights) n) m k cs bs (i + n)) (along-lent n a bs i t)
+
+abbrev threeAt : Basis → ℕ → Three
+threeAt b j = three (getD (b .values) j nan) (getD (b .firsts) j nan) (getD (b .seconds) j nan)
+
+threes-arrays : (b : Basis) (k j : ℕ) → threes b k j ≡ threes (arrays (b .values) (b .firsts) (b .seconds)) k j
+unfolding threes
+threes-arrays b zero j = refl
+threes-arrays b (suc k) j = ap (λ (ts : List Three). threeAt b j ∷ ts) (threes-arrays b k (suc j))
+
+-- ---- the four loops
+
+pub heaviest-along-fold : (s : Surface) (m : Float) (at : ℕ) → Fold (λ j w. max w (weightAt s m (at + j))) (λ k j w. heaviestAlong s m (counted k) (at + j) w)
+unfolding heaviestAlong
+heaviest-along-fold s m at = record { none = λ j w. refl; more = λ k j w. rw add-suc }
+
+pub heaviest-fold : (ws : List Float) (m : Float) (n row columns column : ℕ)
+    → Fold
+    (λ i w. heaviestAlong (lent [] ws 0) m (counted columns) ((row + i) * n + column) w)
+    (λ k i w. heaviest (lent [] ws n) m (counted k) (counted columns) ((row + i) * n + column) w)
+unfolding heaviest
+heaviest-fold ws m n row columns column = record {
+  none = λ i w. refl;
+  more = λ k i w.
+      let at = (row + i) * n + column in
+      let e = heaviest-along-lent (lent [] ws n) m 0 (counted columns) at w in
+      rw (row-next row i n column) (ap (heaviest (lent [] ws n) m (counted k) (counted columns) (at + n)) (rw length-replicate at e));
+}
+
+pub along-fold : (s : Surface) (m k : Float) (a : Three) (b : Basis) (at : ℕ)
+    → Fold (λ j t. with a (threeAt b j) (weightAt s m (at + j) ⊘ k) (pointAt s m (at + j)) t) (λ n j t. along s m k a (threes b n j) (at + j) t)
+unfolding along threes
+along-fold s m k a b at = record { none = λ j t. refl; more = λ n j t. rw add-suc }
+
+pub with-point : (a b : Three) (w : Float) {p q : Vector3} (t : Sums) {x : Sums} → x ≡ with a b w p t → p ≡ q → x ≡ with a b w q t
+with-point a b w t e h = rw h at e
+
+pub over-fold : (cs ws : List Float) (m k : Float) (n row : ℕ) (u : Basis) (column columns : ℕ) (v : Basis)
+    → Fold
+    (λ i t. along (lent cs ws 0) m k (threeAt u i) (threes (arrays (v .values) (v .firsts) (v .seconds)) columns 0) ((row + i) * n + column) t)
+    (λ r i t. over (lent cs ws n) m k (threes u r i) (threes v columns 0) ((row + i) * n + column) t)
+unfolding over threes
+over-fold cs ws m k n row u column columns v = record {
+  none = λ i t. refl;
+  more = λ r i t.
+      let at = (row + i) * n + column in
+      let e = along-lent (lent cs ws n) m k 0 (threeAt u i) (threes v columns 0) at t in
+      let f = ap (λ (bs : List Three). along (lent cs ws 0) m k (threeAt u i) bs at t) (threes-arrays v columns 0) in
+      rw (row-next row i n column) (ap (over (lent cs ws n) m k (threes u r (suc i)) (threes v columns 0) (at + n)) (e ∙ f));
+}

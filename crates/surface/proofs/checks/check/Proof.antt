@@ -1,0 +1,113 @@
+-- After each check that passes, those after it are left.
+use mathlib.Core.Path.{sym, _∙_}
+use native.Mathlib.Omega.{arith}
+use borrow.Author.Needs.{needs}
+use borrow.Author.Tests.{not-true, not-false}
+use Rattle.surface.specs.Surface.{Surface, surface}
+use Rattle.surface.proofs.CheckSteps.{fromCounts, fromControls, fromWeights, fromKnotsU, fromKnotsV, Leaves, large-controls, large-knots, to-counts, miscounted-controls, miscounted-weights, to-controls, not-finite, to-weights, refused-weights, to-knots, refused-u, to-knots-v, refused, accepted}
+use Rattle.surface.proofs.checks.check.Statement.{statement}
+use Rattle.surface.proofs.checks.check.Tie as tie
+
+-- the surface of which the function is asked
+abbrev lent : tie.After-product → Surface
+lent c =
+    let a = c .before .before .before .before .before .before .before .args in
+    surface (a .shape) (a .ku .now) (a .kv .now) (a .controls .now) (a .weights .now)
+
+counts-left : (c : tie.Else3) → Leaves fromCounts (lent (c .before .before .before))
+counts-left c = to-counts _ _ (c .before .before .before .product .ensures) (c .before .before .if1 .left) (omega arith)
+
+controls-left : (c : tie.Else5) → Leaves fromControls (lent (c .before .before .before .before .before))
+controls-left c = to-controls _ _ (c .before .before .before .before .before .product .ensures) (c .before .before .before .before .if1 .left) (counts-left (c .before .before)) (c .before .if4 .left) (c .if5 .left)
+
+weights-left : (c : tie.Else6) → Leaves fromWeights (lent (c .before .before .before .before .before .before .before))
+weights-left c = to-weights _ (controls-left (c .before .before)) (sym (c .before .all-finite .ensures) ∙ not-false _ (c .if6 .left))
+
+knots-left : (c : tie.After-known-told) → Leaves fromKnotsU (lent (c .before .before .before .before .before .before .before .before .before .before .before))
+knots-left c = to-knots _ (weights-left (c .before .before .before .before)) _ (sym (c .before .before .before .validate-weights .ensures) ∙ c .before .weighed .given .1)
+
+knots-v-left : (c : tie.Else7) → Leaves fromKnotsV (lent (c .before .before .before .before .before .before .before .before .before .before .before .before .before))
+knots-v-left c = to-knots-v _ _ (knots-left (c .before .before)) (c .before .check-knots .ensures) (c .if7 .left)
+
+product-requires : tie.Need-product-requires
+product-requires c κs = search needs
+
+returns : tie.Need-returns
+returns c = large-controls _ _ (c .before .product .ensures) (c .if1 .taken)
+
+returns-2 : tie.Need-returns-2
+returns-2 c = large-knots _ _ (c .before .before .product .ensures) (omega arith)
+
+sub-if3 : tie.Need-sub-if3
+sub-if3 c = search needs
+
+returns-3 : tie.Need-returns-3
+returns-3 c = large-knots _ _ (c .before .before .before .product .ensures) (omega arith)
+
+mul-if4 : tie.Need-mul-if4
+mul-if4 c = search needs
+
+returns-4 : tie.Need-returns-4
+returns-4 c = miscounted-controls _ _ (c .before .before .before .before .product .ensures) (c .before .before .before .if1 .left) (counts-left (c .before)) (c .if4 .taken)
+
+returns-5 : tie.Need-returns-5
+returns-5 c = miscounted-weights _ _ (c .before .before .before .before .before .product .ensures) (c .before .before .before .before .if1 .left) (counts-left (c .before .before)) (c .if5 .taken)
+
+all-finite-requires : tie.Need-all-finite-requires
+all-finite-requires c κs = search needs
+
+returns-6 : tie.Need-returns-6
+returns-6 c = not-finite _ (controls-left (c .before .before)) (sym (c .before .all-finite .ensures) ∙ not-true _ (c .if6 .taken))
+
+validate-weights-requires : tie.Need-validate-weights-requires
+validate-weights-requires c κs = search needs
+
+enum-known-weighed : tie.Need-enum-known-weighed
+enum-known-weighed c = search needs
+
+enum-told : tie.Need-enum-told
+enum-told c = search needs
+
+returns-7 : tie.Need-returns-7
+returns-7 c = refused-weights _ (weights-left (c .before .before .before)) (sym (c .before .before .validate-weights .ensures) ∙ c .enum-told .given .1)
+
+check-knots-requires : tie.Need-check-knots-requires
+check-knots-requires c κs = search needs
+
+returns-8 : tie.Need-returns-8
+returns-8 c = refused-u _ _ (knots-left (c .before .before)) (c .before .check-knots .ensures) (c .if7 .taken)
+
+check-knots-requires-2 : tie.Need-check-knots-requires-2
+check-knots-requires-2 c κs = search needs
+
+returns-9 : tie.Need-returns-9
+returns-9 c = refused _ _ (knots-v-left (c .before .before) ∙ sym (c .before .check-knots2 .ensures)) (c .if8 .taken)
+
+returns-10 : tie.Need-returns-10
+returns-10 c =
+    accepted _ _ (sym (c .before .before .before .before .before .before .before .validate-weights .ensures) ∙ c .before .before .before .before .before .weighed .given .1)
+    (knots-v-left (c .before .before) ∙ sym (c .before .check-knots2 .ensures) ∙ c .if8 .left)
+
+pub check-spec : {M : Type 1} → statement M
+check-spec =
+    tie.close
+    (tie.spec
+    product-requires
+    returns
+    returns-2
+    sub-if3
+    returns-3
+    mul-if4
+    returns-4
+    returns-5
+    all-finite-requires
+    returns-6
+    validate-weights-requires
+    enum-known-weighed
+    enum-told
+    returns-7
+    check-knots-requires
+    returns-8
+    check-knots-requires-2
+    returns-9
+    returns-10)

@@ -1,0 +1,7 @@
+-- One name that opens every definition, those of the crates below too: a theorem that computes says `unfolding compute`.
+use Rattle.patch.specs.Compute as Patch
+use Rattle.surface.specs.Surface.{orElse, tooLarge, miscounted, refusalOfSurface, judged, checked, wrapped, heaviestAlong, heaviest, along, over, blended, evaluateBy, orNine, evaluatedBy, evaluated}
+
+unfoldable pub compute : Unit {0}
+unfolding Patch.compute orElse tooLarge miscounted refusalOfSurface judged checked wrapped heaviestAlong heaviest along over blended evaluateBy orNine evaluatedBy evaluated
+compute = tt

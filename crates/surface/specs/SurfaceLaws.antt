@@ -1,0 +1,145 @@
+-- What holds of a surface that is accepted, and of a parameter brought into the domain. Assumes nothing.
+use mathlib.Core.Path.{_≡_, refl, sym, ap, _∙_}
+use mathlib.Core.Bool.{Bool, true, false, not, cond, _&&_, _||_, or-true, and-eq-true-iff, true≢false}
+use Prim.Native.Nat.{ℕ, zero, suc, _*_, _≤_, _<_}
+use native.Mathlib.Omega.{arith}
+use lib.Dec.{eqb}
+use lib.ListN.{length, getD}
+use lib.Ieee.{Float, nan, lt, le, isNan}
+use borrow.Author.Tests.{ltb-false, eqb-true, not-false}
+use Rattle.float64.specs.Operators.{_⊕_, _⊖_}
+use Rattle.float64.specs.Functions.{isFinite, clamp, remEuclid}
+use Rattle.float64.specs.Order.{le-refl, le→number, le-not-lt, lt→le}
+use Rattle.spline.specs.declared.weights.Weighed.{Weighed}
+use Rattle.spline.specs.declared.weights.Weighed.the-variants as Weighed
+use Rattle.spline.specs.Weights.{sound, vanishing, isEmpty, weighed, refusalOf}
+use Rattle.spline.specs.WeightLaws.{scale-of}
+use Rattle.spline.specs.Knots.{allFinite, refusalOfKnots}
+use Rattle.spline.specs.Each.{Each, each-at}
+use Rattle.surface.specs.declared.Checked.the-variants as Check
+use Rattle.surface.specs.Surface.{Surface, axisU, axisV, total, orElse, when, tooLarge, miscounted, refusalOfSurface, scaleOf, judged, checked, wrapped}
+
+-- ---- the checks
+
+pub finite-each : Each (λ x xs. isFinite x) allFinite
+unfolding allFinite
+finite-each = record { none = refl; more = λ x xs. refl }
+
+none-of : (m n : ℕ) → orElse m n ≡ 0 → (m ≡ 0) × (n ≡ 0)
+unfolding orElse
+none-of zero n h = (refl, h)
+none-of (suc k) n h = absurd (omega arith)
+
+not-when : (t : Bool) (n : ℕ) → when t (suc n) ≡ 0 → t ≡ false
+not-when true n h = absurd (omega arith)
+not-when false n h = refl
+
+neither : (p q : Bool) → (p || q) ≡ false → (p ≡ false) × (q ≡ false)
+neither true q h = absurd (true≢false h)
+neither false q h = (refl, h)
+
+total-most : (s : Surface) → tooLarge s ≡ false → total s ≤ 100000
+unfolding tooLarge
+total-most s h = ltb-false 100000 (total s) (neither _ _ h .0)
+
+counted : (s : Surface) → miscounted s ≡ false → (length (s .controls) ≡ 3 * total s) × (length (s .weights) ≡ total s)
+unfolding miscounted
+counted s h =
+    let t = and-eq-true-iff (eqb (length (s .controls)) (3 * total s)) (eqb (length (s .weights)) (total s)) .0 (not-false _ h) in
+    (eqb-true _ _ (t .0), eqb-true _ _ (t .1))
+
+pub scale-is : (s : Surface) (m : Float) → weighed (s .weights) ≡ Weighed.Scale m → m ≡ scaleOf s
+unfolding weighed
+scale-is s m e =
+    let ws = s .weights in
+    sym (scale-of (isEmpty ws || not (sound ws) || vanishing (scaleOf s) ws) _ _ e .1)
+
+scaled : (s : Surface) → refusalOf (weighed (s .weights)) ≡ 0 → weighed (s .weights) ≡ Weighed.Scale (scaleOf s)
+unfolding refusalOf
+scaled s h = by (weighed (s .weights)) refl h
+  where
+    by : (w : Weighed) → weighed (s .weights) ≡ w → refusalOf w ≡ 0 → weighed (s .weights) ≡ Weighed.Scale (scaleOf s)
+    by (Weighed.Scale m) e h = e ∙ ap Weighed.Scale (scale-is s m e)
+    by Weighed.Refused e h = absurd (omega arith)
+
+-- a surface that is accepted
+pub record AcceptedSurface (s : Surface) : Type 0 where
+  pub total-most : total s ≤ 100000
+  pub controls : length (s .controls) ≡ 3 * total s
+  pub weights : length (s .weights) ≡ total s
+  pub finite : (i : ℕ) → i < length (s .controls) → isFinite (getD (s .controls) i nan) ≡ true
+  pub scale : weighed (s .weights) ≡ Weighed.Scale (scaleOf s)
+  pub knots-u : refusalOfKnots (axisU s) ≡ 0
+  pub knots-v : refusalOfKnots (axisV s) ≡ 0
+
+pub accepted-surface : (s : Surface) → refusalOfSurface s ≡ 0 → AcceptedSurface s
+unfolding refusalOfSurface
+accepted-surface s h =
+    let t1 = none-of _ _ h in
+    let t2 = none-of _ _ (t1 .1) in
+    let t3 = none-of _ _ (t2 .1) in
+    let t4 = none-of _ _ (t3 .1) in
+    let t5 = none-of _ _ (t4 .1) in
+    let counts = counted s (not-when _ _ (t2 .0)) in
+    record {
+      total-most = total-most s (not-when _ _ (t1 .0));
+      controls = counts .0;
+      weights = counts .1;
+      finite = λ i l. each-at finite-each (s .controls) i (not-false _ (not-when _ _ (t3 .0))) l;
+      scale = scaled s (t4 .0);
+      knots-u = t5 .0;
+      knots-v = t5 .1;
+    }
+
+pub checked-scale : (s : Surface) (m : Float) → checked s ≡ Check.Scale m → (refusalOfSurface s ≡ 0) × (m ≡ scaleOf s)
+unfolding checked judged
+checked-scale s m h = by (refusalOfSurface s) h
+  where
+    by : (n : ℕ) → judged (scaleOf s) n ≡ Check.Scale m → (n ≡ 0) × (m ≡ scaleOf s)
+    by zero h = (refl, cc)
+    by (suc n) h = absurd (let z : _≡_ {A = ℕ} 0 1 = cc in omega arith)
+
+-- ---- a parameter on an axis, of a domain from lo to hi
+
+module _ (periodic : Bool) (lo hi t : Float) where
+  pub wrap-flagless : periodic ≡ false → wrapped periodic lo hi t ≡ t
+  unfolding wrapped
+  wrap-flagless n = simp n
+
+  pub wrap-not-finite : isFinite t ≡ false → wrapped periodic lo hi t ≡ t
+  unfolding wrapped
+  wrap-not-finite f = simp (f, or-true)
+
+  pub wrap-inside : le lo t ≡ true → le t hi ≡ true → wrapped periodic lo hi t ≡ t
+  unfolding wrapped
+  wrap-inside l h = simp (l, h, or-true)
+
+  pub wrap-outside : periodic ≡ true → isFinite t ≡ true → (le lo t && le t hi) ≡ false → wrapped periodic lo hi t ≡ clamp (lo ⊕ remEuclid (t ⊖ lo) (hi ⊖ lo)) lo hi
+  unfolding wrapped
+  wrap-outside p f o = simp (p, f, o)
+
+clamp-within : (x lo hi : Float) → le lo hi ≡ true → isNan (clamp x lo hi) ≡ false → (le lo (clamp x lo hi) ≡ true) × (le (clamp x lo hi) hi ≡ true)
+unfolding clamp
+clamp-within x lo hi w n = by (lt x lo) (lt hi x) refl refl n
+  where
+    ends : (isNan lo ≡ false) × (isNan hi ≡ false)
+    ends = le→number lo hi w
+
+    by : (a b : Bool) → lt x lo ≡ a → lt hi x ≡ b → isNan (cond a lo (cond b hi x)) ≡ false
+        → (le lo (cond a lo (cond b hi x)) ≡ true) × (le (cond a lo (cond b hi x)) hi ≡ true)
+    by true b e f n = (le-refl lo (ends .0), w)
+    by false true e f n = (w, le-refl hi (ends .1))
+    by false false e f n = (le-not-lt lo x (ends .0) n ∙ ap not e, le-not-lt x hi n (ends .1) ∙ ap not f)
+
+-- The answer is a NaN where t - lo overflows.
+pub wrap-domain : (periodic : Bool) (lo hi t : Float) → periodic ≡ true → lt lo hi ≡ true → isFinite t ≡ true → isNan (wrapped periodic lo hi t) ≡ false
+    → (le lo (wrapped periodic lo hi t) ≡ true) × (le (wrapped periodic lo hi t) hi ≡ true)
+wrap-domain periodic lo hi t p w f n = by (le lo t && le t hi) refl
+  where
+    by : (b : Bool) → (le lo t && le t hi) ≡ b → (le lo (wrapped periodic lo hi t) ≡ true) × (le (wrapped periodic lo hi t) hi ≡ true)
+    by true e =
+        let h = and-eq-true-iff (le lo t) (le t hi) .0 e in
+        rw (wrap-inside periodic lo hi t (h .0) (h .1)) h
+    by false e =
+        let o = wrap-outside periodic lo hi t p f e in
+        rw o (clamp-within _ lo hi (lt→le lo hi w) (rw o at n))

@@ -1,0 +1,35 @@
+// A NURBS surface: a record of counts and flags by value, beside the knots, controls and weights that a caller lends.
+// Control (i, j) stands at i * v.controls + j, three coordinates each.
+mod checks;
+mod jets;
+mod periodic;
+
+pub use checks::check;
+pub use jets::blend;
+pub use jets::evaluate;
+pub use jets::surface_jet;
+use patch::Jet;
+pub use periodic::wrap;
+
+// One axis. A periodic one wraps with its knot domain for a period.
+pub struct Counts {
+    pub degree: usize,
+    pub controls: usize,
+    pub periodic: bool,
+}
+
+pub struct Shape {
+    pub u: Counts,
+    pub v: Counts,
+}
+
+// What the checks answer: the largest weight, by which all are to be divided, or the number of the refusal.
+pub enum Checked {
+    Scale(f64),
+    Refusal(u64),
+}
+
+pub enum Evaluation {
+    Found(Jet),
+    Refusal(u64),
+}

@@ -1,0 +1,21 @@
+// A parameter on an axis with the flag, brought into the knot domain. One that is not finite stays as it is.
+use float64::clamp;
+use float64::is_finite;
+use float64::rem_euclid;
+ghost use mathlib.Core.Path.{_≡_};
+ghost use Rattle.surface.specs.Surface.{wrapped};
+
+pub fn wrap(periodic: bool, low: f64, high: f64, t: f64) -> f64
+    ensures { λ r. ⌜ r ≡ wrapped periodic low high t ⌝ }
+{
+    if !periodic {
+        return t;
+    }
+    if !is_finite(t) {
+        return t;
+    }
+    if low <= t && t <= high {
+        return t;
+    }
+    clamp(low + rem_euclid(t - low, high - low), low, high)
+}

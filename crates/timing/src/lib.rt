@@ -1,0 +1,59 @@
+// The port's kernels, for bench/ to time. A caller has made the checks already, as the source's constructors do: nothing here makes them again.
+use patch::Evaluated;
+use spline::KnotSide;
+use surface::Counts;
+use surface::Shape;
+ghost use mathlib.Core.Path.{_≡_};
+ghost use mathlib.Core.Bool.{false};
+ghost use Rattle.spline.specs.Knots.{axis, refusalOfKnots};
+ghost use Rattle.surface.specs.Surface.{surface, refusalOfSurface};
+
+#[no_mangle]
+pub extern "C" fn time_root(x: f64) -> f64 {
+    float64::root(x)
+}
+
+// A number of each row.
+#[no_mangle]
+pub extern "C" fn time_basis(knots: &[f64], degree: usize, controls: usize, u: f64) -> f64
+    requires { ⌜ refusalOfKnots (axis degree controls (now knots)) ≡ 0 ⌝ }
+{
+    let b = basis::basis_on_side(knots, degree, controls, u, KnotSide::Right);
+    b.values[0] + b.firsts[0] + b.seconds[0]
+}
+
+// A number of the point and of each first derivative, or a NaN where the evaluation refuses.
+#[no_mangle]
+pub extern "C" fn time_evaluate(
+    pu: usize,
+    pv: usize,
+    nu: usize,
+    nv: usize,
+    ku: &[f64],
+    kv: &[f64],
+    controls: &[f64],
+    weights: &[f64],
+    scale: f64,
+    u: f64,
+    v: f64,
+) -> f64
+    requires { ⌜ refusalOfSurface (surface (record { u = record { degree = pu; controls = nu; periodic = false }; v = record { degree = pv; controls = nv; periodic = false } }) (now ku) (now kv) (now controls) (now weights)) ≡ 0 ⌝ }
+{
+    let shape = Shape {
+        u: Counts {
+            degree: pu,
+            controls: nu,
+            periodic: false,
+        },
+        v: Counts {
+            degree: pv,
+            controls: nv,
+            periodic: false,
+        },
+    };
+    let Evaluated::Found(j) = surface::surface_jet(shape, ku, kv, controls, weights, scale, u, v)
+    else {
+        return 0.0f64 / 0.0f64;
+    };
+    j.x + j.uy + j.vz
+}
