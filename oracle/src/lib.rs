@@ -1,0 +1,15 @@
+//! The Rust source beside the port: document 01's calls answered by the source itself,
+//! inputs of every kind, stored answers, and the figures of 01.
+pub mod answers;
+pub mod calls;
+pub mod figures;
+pub mod generate;
+pub mod job;
+pub mod refusals;
+pub mod replay;
+pub mod row;
+pub mod small;
+
+mod source {
+    include!(concat!(env!("OUT_DIR"), "/root.rs"));
+}

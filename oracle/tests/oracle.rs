@@ -1,0 +1,183 @@
+use oracle::answers::{KINDS, records};
+use oracle::calls::{Shell, Surface, invert, price};
+use oracle::figures;
+use oracle::generate::{Random, SETS, inversion, row};
+use oracle::job::{Job, MOST_BYTES, print};
+use oracle::refusals::Refusal;
+use oracle::replay::differing;
+use std::collections::BTreeMap;
+
+const SEED: u64 = 20_261_115;
+
+#[test]
+fn figures_are_confirmed() {
+    for figure in figures::all() {
+        assert_eq!(figure.found, figure.expected, "{}", figure.what);
+    }
+}
+
+/// Document 01's job: the square, tolerance 0.5, budget 1000, the mark twice.
+fn job() -> Vec<u8> {
+    let [one, half, quarter, most] = [1_f64, 0.5, 0.25, 0.75].map(f64::to_le_bytes);
+    let nil = [0; 8];
+    let mut file = vec![b'S', b'F', 1, 1, 2, 0, 2, 0, 0];
+    let knots = [nil, nil, one, one];
+    let controls = [nil, nil, nil, nil, one, nil, one, nil, nil, one, one, nil];
+    for numbers in [&knots[..], &knots, &controls, &[one; 4]] {
+        file.extend(numbers.as_flattened());
+    }
+    file.extend(b"TL");
+    file.extend([half, 1000_u64.to_le_bytes()].as_flattened());
+    for _ in 0..2 {
+        file.extend(b"MK");
+        file.extend([quarter, half, most].as_flattened());
+    }
+    file
+}
+
+#[test]
+fn job_prints_byte_for_byte() {
+    let printout = "marks 2\n3fd0000000000000 3fe0000000000000 908\n\
+                    3fd0000000000000 3fe0000000000000 814\n";
+    assert_eq!(print(&job()), printout);
+}
+
+#[test]
+fn damaged_jobs_are_refused() {
+    let file = job();
+    let malformed = "refused 12 at 0\n";
+    let whole = [file.len() - 52, file.len() - 26];
+    for cut in (0..file.len()).filter(|cut| !whole.contains(cut)) {
+        assert_eq!(print(&file[..cut]), malformed, "cut to {cut} bytes");
+    }
+    assert_eq!(print(&[&file[..], &[0]].concat()), malformed);
+    let records = [0, 1, 201, 202, 219, 220, 245, 246];
+    for (place, value) in records
+        .map(|place| (place, b'?'))
+        .into_iter()
+        .chain([(8, 4)])
+    {
+        let mut other = file.clone();
+        other[place] = value;
+        assert_eq!(print(&other), malformed, "byte {place}");
+    }
+}
+
+/// A file of degree 12 by 1 with as many marks as 32,767 bytes hold, or more of them.
+fn long_job(more: usize) -> Vec<u8> {
+    let job = Job {
+        surface: Surface {
+            degrees: [12, 1],
+            shape: [13, 2],
+            knots: [[[0.; 13], [1.; 13]].concat(), vec![0., 0., 1., 1.]],
+            controls: vec![0.; 78],
+            weights: vec![1.; 26],
+            ..Surface::square()
+        },
+        tolerance: 0.5,
+        budget: 0,
+        marks: vec![0.5; 3 * (1218 + more)],
+    };
+    job.write()
+}
+
+#[test]
+fn longest_job_is_one_byte_below_the_limit() {
+    let mut file = long_job(0);
+    assert_eq!(file.len(), MOST_BYTES - 1);
+    assert_eq!(print(&file), "marks 1218\nrefused 8 at 0\n");
+    file.push(0);
+    assert_eq!(print(&file), "refused 12 at 0\n");
+    assert_eq!(print(&long_job(1)), "refused 12 at 0\n");
+}
+
+#[test]
+fn price_is_the_least_budget_that_answers() {
+    let mut random = Random::new(1);
+    for _ in 0..3000 {
+        let case = inversion(&mut random);
+        let price = price(&case.surface, case.mark, &case.search);
+        assert!(price <= 37_513);
+        if price == 0 {
+            continue;
+        }
+        let at = |budget| invert(&case.surface, case.mark, &case.search, budget);
+        assert_eq!(at(price).answer, at(u64::MAX).answer);
+        assert_eq!(at(price).left, 0);
+        assert_eq!(at(price - 1).answer, Err(Refusal::Units));
+        assert_eq!(at(price - 1).left, 0);
+    }
+}
+
+/// A row is its marks placed one by one, and touches nothing but their pairs.
+#[test]
+fn rows_are_chains_of_inversions() {
+    let mut random = Random::new(2);
+    for _ in 0..1000 {
+        let case = row(&mut random);
+        let mut answers = case.answers.clone();
+        let ended = oracle::row::row(
+            &case.surface,
+            &case.marks,
+            &case.search,
+            case.budget,
+            &mut answers,
+        );
+        let sound = Shell::new(&case.surface).is_ok() && case.search.check().is_ok();
+        let fits = case.marks.len() % 3 == 0 && case.answers.len() >= case.marks.len() / 3 * 2;
+        let (mut search, mut left) = (case.search, case.budget);
+        let mut expected = case.answers.clone();
+        let mut refused = None;
+        for (index, mark) in case.marks.as_chunks::<3>().0.iter().enumerate() {
+            if !fits || !sound {
+                break;
+            }
+            let spent = invert(&case.surface, *mark, &search, left);
+            left = spent.left;
+            let Ok(pair) = spent.answer else {
+                refused = spent.answer.err().map(|refusal| (refusal, index));
+                break;
+            };
+            expected[2 * index..2 * index + 2].copy_from_slice(&pair);
+            search.hint = Some(pair);
+        }
+        let bits = |numbers: &[f64]| numbers.iter().map(|x| x.to_bits()).collect::<Vec<_>>();
+        assert_eq!(bits(&answers), bits(&expected));
+        assert_eq!(ended.left, left);
+        if fits && sound {
+            assert_eq!(ended.refused, refused);
+        } else {
+            assert!(ended.refused.is_some_and(|(_, index)| index == 0));
+        }
+    }
+}
+
+#[test]
+fn replay_finds_changed_answers() {
+    for set in &SETS {
+        let stored = records(set, SEED).filter(|record| record.fits());
+        let mut words: Vec<u64> = stored.flat_map(|record| record.words).collect();
+        assert!(differing(&words).is_empty());
+        // The last word of a set belongs to an answer.
+        *words.last_mut().expect("no set is empty") ^= 1;
+        assert_eq!(differing(&words).values().sum::<usize>(), 1);
+    }
+}
+
+#[test]
+fn sets_hold_enough_answers() {
+    let mut counts = BTreeMap::<&str, usize>::new();
+    for set in &SETS {
+        for record in records(set, SEED).filter(|record| record.fits()) {
+            assert_eq!(record.words.len() as u64, record.words[1] + 2);
+            *counts.entry(record.kind()).or_default() += record.answers;
+        }
+    }
+    let total = |kinds: &[&str]| kinds.iter().map(|kind| counts[kind]).sum::<usize>();
+    assert!(total(&KINDS[..5]) >= 5000);
+    assert!(total(&["evaluate"]) >= 5000);
+    assert!(total(&["invert"]) >= 3000);
+    assert!(total(&["plane", "derivative", "nurbs_singular"]) >= 2000);
+    assert!(total(&["row"]) >= 1500);
+    assert!(total(&["job"]) >= 500);
+}
