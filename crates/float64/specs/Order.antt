@@ -15,7 +15,7 @@ use borrow.Author.Tests.{leb-true, leb-false, eqb-true, lt-ltb, le-ltb, le-leb, 
 
 -- ---- tests
 -- two tests that pass together
-agree : (p q : Bool) → (p ≡ true → q ≡ true) → (q ≡ true → p ≡ true) → p ≡ q
+pub agree : (p q : Bool) → (p ≡ true → q ≡ true) → (q ≡ true → p ≡ true) → p ≡ q
 agree true q f g = sym (f refl)
 agree false true f g = g refl
 agree false false f g = refl

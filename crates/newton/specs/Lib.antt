@@ -1,0 +1,4 @@
+pub mod Run
+pub mod Compute
+pub mod RunLaws
+pub mod Examples

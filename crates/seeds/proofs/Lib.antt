@@ -1,0 +1,2 @@
+pub mod AxisSteps
+pub mod Places

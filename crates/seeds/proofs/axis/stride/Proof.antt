@@ -1,0 +1,20 @@
+-- The stride, whose least is 1.
+use native.Mathlib.Omega.{arith}
+use borrow.Author.Needs.{needs}
+use Rattle.seeds.specs.Axis.{stride}
+use Rattle.seeds.proofs.axis.stride.Statement.{statement}
+use Rattle.seeds.proofs.axis.stride.Tie as tie
+
+add-n : tie.Need-add-n
+add-n c = search needs
+
+returns : tie.Need-returns
+unfolding stride
+returns c = omega arith
+
+returns-2 : tie.Need-returns-2
+unfolding stride
+returns-2 c = omega arith
+
+pub stride-spec : {M : Type 1} → statement M
+stride-spec = tie.close (tie.spec add-n returns returns-2)

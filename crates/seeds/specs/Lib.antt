@@ -1,0 +1,9 @@
+pub mod Axis
+pub mod AxisLaws
+pub mod Grid
+pub mod Insert
+pub mod StartLaws
+pub mod Walk
+pub mod WalkLaws
+pub mod Finite
+pub mod Compute

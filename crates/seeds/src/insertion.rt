@@ -1,0 +1,74 @@
+// The starts as the grid is walked: six structs by value, sorted by insertion; equal distances are not taken in.
+use crate::Start;
+use crate::Starts;
+ghost use mathlib.Core.Path.{_≡_};
+ghost use Prim.Native.Nat.{_≤_};
+ghost use lib.ListN.{take};
+ghost use Rattle.seeds.specs.Insert.{held, Rising, kept, placeIn, spliced};
+
+// The first index whose distance is not below d.
+fn place(at: [Start; 6], count: usize, d: f64) -> usize
+    requires { ⌜ count ≤ 6 ⌝ }
+    ensures { λ r. ⌜ r ≡ placeIn d (take count at) ⌝ }
+{
+    for i in 0..count {
+        let y = at[i];
+        if d <= y.distance {
+            return i;
+        }
+    }
+    count
+}
+
+// x put in at i; the last falls out where there are six.
+fn splice(at: [Start; 6], count: usize, i: usize, x: Start) -> Starts
+    requires { ⌜ (count ≤ 6) × (i ≤ count) ⌝ }
+    ensures { λ r. ⌜ (held r ≡ take 6 (spliced i x (take count at))) × (r .count ≤ 6) ⌝ }
+{
+    let mut out = at;
+    let mut carry = x;
+    for k in i..count {
+        let y = out[k];
+        out[k] = carry;
+        carry = y;
+    }
+    if count < 6 {
+        out[count] = carry;
+        return Starts {
+            at: out,
+            count: count + 1,
+        };
+    }
+    Starts { at: out, count }
+}
+
+// x at its place, unless one as far is there.
+fn enter(s: Starts, x: Start) -> Starts
+    requires { ⌜ s .count ≤ 6 ⌝ }
+    ensures { λ r. ⌜ (held r ≡ kept x (held s)) × (r .count ≤ 6) ⌝ }
+{
+    let at = s.at;
+    let count = s.count;
+    let i = place(at, count, x.distance);
+    if i < count {
+        let y = at[i];
+        if x.distance == y.distance {
+            return s;
+        }
+    }
+    splice(at, count, i, x)
+}
+
+// Most points of a grid are no nearer than the last of six, and change nothing.
+pub fn insert(s: Starts, x: Start) -> Starts
+    requires { ⌜ (s .count ≤ 6) × Rising (held s) ⌝ }
+    ensures { λ r. ⌜ (held r ≡ kept x (held s)) × (r .count ≤ 6) ⌝ }
+{
+    if s.count == 6 {
+        let last = s.at[5];
+        if last.distance <= x.distance {
+            return s;
+        }
+    }
+    enter(s, x)
+}
