@@ -4,3 +4,4 @@ pub mod Rounded
 pub mod Digits
 pub mod Normal
 pub mod RootOfBits
+pub mod Guess

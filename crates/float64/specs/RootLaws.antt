@@ -23,15 +23,12 @@ use Rattle.float64.specs.Order.{eq-zeros}
 use Rattle.float64.specs.Nonneg.{Nonneg, infinite, finite, nonneg-le, root-nonneg}
 use Rattle.float64.specs.Functions.{isFinite, unitsOf, halfSize, radicand, rootOfUnits, root}
 use Rattle.float64.specs.Units.{units, double, units-shifted, units-under, own-units, units-of-value}
-use Rattle.float64.specs.WholeRoot.{IsNearest, nearestRoot, nearest-root}
+use Rattle.float64.specs.WholeRoot.{unsquare-lt, IsNearest, nearestRoot, nearest-root}
 
 -- ---- whole numbers
 
 square-lt : {a b : ℕ} → a < b → a * a < b * b
 square-lt {a} {b} h = lt-of-le-of-lt (mul-le-mul-left a (le-of-lt h)) (mul-lt-mul-of-pos-right h (omega arith))
-
-unsquare-lt : {a b : ℕ} → a * a < b * b → a < b
-unsquare-lt {a} {b} h = lt-of-not-le (λ (g : b ≤ a). lt-irrefl (a * a) (lt-of-lt-of-le h (mul-le-mul g g)))
 
 -- q is the nearest to the root of n, and has 53 digits since n has 105 or 106
 module _ {q n : ℕ} (near : IsNearest q n) (many : 2 ^ 104 ≤ n) (few : n < 2 ^ 106) where

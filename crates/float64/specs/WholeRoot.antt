@@ -46,6 +46,9 @@ pub whole-root : (n : ℕ) → n < 2 ^ 106 → IsRoot (wholeRoot n) n
 unfolding wholeRoot
 whole-root n h = from-holds 53 0 n (omega arith) (omega arith)
 
+pub unsquare-lt : {a b : ℕ} → a * a < b * b → a < b
+unsquare-lt {a} {b} h = lt-of-not-le (λ (g : b ≤ a). lt-irrefl (a * a) (lt-of-lt-of-le h (mul-le-mul g g)))
+
 root-le : (q r n : ℕ) → IsRoot q n → IsRoot r n → q ≤ r
 root-le q r n h k = le-of-suc-le-suc (lt-of-not-le (λ (l : suc r ≤ q). lt-irrefl n (lt-of-lt-of-le (k .high) (le-trans (mul-le-mul l l) (h .low)))))
 
