@@ -19,7 +19,7 @@ pub record FiniteJet (j : Jet) : Type 0 where
   pub u : Finite (record { x = j .ux; y = j .uy; z = j .uz })
   pub v : Finite (record { x = j .vx; y = j .vy; z = j .vz })
 
-vector-finite : (a : Vector3) → finiteVector a ≡ true → Finite a
+pub vector-finite : (a : Vector3) → finiteVector a ≡ true → Finite a
 unfolding finiteVector
 vector-finite a h =
     let z = and-eq-true-iff _ _ .0 h in

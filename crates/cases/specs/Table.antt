@@ -1,0 +1,155 @@
+-- The cases that document 01 marks with a dot, as one list, and the theorem that every row holds of the definitions.
+-- A heavy row is a lemma of its own, since a declaration may take only so many steps.
+use mathlib.Core.Path.{_≡_, refl}
+use mathlib.Core.Bool.{true, false}
+use mathlib.Core.List.{List, [], _∷_}
+use lib.IntN.{pos, negsuc}
+use lib.Ieee.{Float, inf, fin, neg}
+use Rattle.float64.specs.Operators.{0·, ½·, 1·, 2·}
+use Rattle.float64.specs.Functions.{root}
+use Rattle.vector3.specs.declared.Vector3.{Vector3}
+use Rattle.spline.specs.declared.weights.Weighed.{Weighed}
+use Rattle.spline.specs.declared.weights.Weighed.the-variants.{Scale, Refused}
+use Rattle.spline.specs.declared.parameter.KnotSide.the-variants.{Right}
+use Rattle.spline.specs.Weights.{weighed}
+use Rattle.spline.specs.Knots.{Axis, axis}
+use Rattle.basis.specs.Basis.{Sample, sample, three, basisAt}
+use Rattle.surface.specs.declared.Counts.{Counts}
+use Rattle.surface.specs.Surface.{Surface, surface, scaleOf, wrapped}
+use Rattle.inversion.specs.declared.Hint.{Hint}
+use Rattle.inversion.specs.declared.Hint.the-variants.{Nothing, At}
+use Rattle.inversion.specs.Inversion.{Answer, pair, inversionBy}
+use Rattle.inverter.specs.Inverter.{nearestTo}
+use Rattle.inverter.specs.Compute.{compute}
+
+-- ---- numbers and surfaces of the table
+
+abbrev -0· : Float
+-0· = fin true 0 (pos 0)
+
+abbrev ¼· : Float
+¼· = fin false 1 (negsuc 1)
+
+abbrev ¾· : Float
+¾· = fin false 3 (negsuc 1)
+
+abbrev 3· : Float
+3· = fin false 3 (pos 0)
+
+abbrev 4· : Float
+4· = fin false 1 (pos 2)
+
+-- 2 ^ -1074, the smallest
+abbrev least : Float
+least = fin false 1 (negsuc 1073)
+
+-- 0.49999999999999994
+abbrev under-half : Float
+under-half = fin false 9007199254740991 (negsuc 53)
+
+-- 0.3
+abbrev three-tenths : Float
+three-tenths = fin false 5404319552844595 (negsuc 53)
+
+-- 0.0000005
+abbrev inside : Float
+inside = fin false 4722366482869645 (negsuc 72)
+
+abbrev linear : Counts
+linear = record { degree = 1; controls = 2; periodic = false }
+
+abbrev ends : List Float
+ends = 0· ∷ 0· ∷ 1· ∷ 1· ∷ []
+
+abbrev bilinear : List Float → Surface
+bilinear controls = surface (record { u = linear; v = linear }) ends ends controls (1· ∷ 1· ∷ 1· ∷ 1· ∷ [])
+
+abbrev square : Surface
+square = bilinear (0· ∷ 0· ∷ 0· ∷ 0· ∷ 1· ∷ 0· ∷ 1· ∷ 0· ∷ 0· ∷ 1· ∷ 1· ∷ 0· ∷ [])
+
+abbrev dot : Surface
+dot = bilinear (0· ∷ 0· ∷ 0· ∷ 0· ∷ 0· ∷ 0· ∷ 0· ∷ 0· ∷ 0· ∷ 0· ∷ 0· ∷ 0· ∷ [])
+
+abbrev quadratic : Axis
+quadratic = axis 2 3 (0· ∷ 0· ∷ 0· ∷ 1· ∷ 1· ∷ 1· ∷ [])
+
+abbrev at : Float → Float → Float → Vector3
+at x y z = record { x = x; y = y; z = z }
+
+abbrev mark : Vector3
+mark = at ¼· ½· ¾·
+
+-- ---- the rows
+
+pub data Case : Type 0 where
+  weights : List Float → Weighed → Case
+  basis : Axis → Float → Sample → Case
+  wraps : Float → Float → Case
+  inverts : Surface → Vector3 → Hint → Float → Answer → Case
+  nearest : Float → Float → Float → Case
+  roots : Float → Float → Case
+
+abbrev pub Holds : Case → Type 0
+Holds (weights ws r) = weighed ws ≡ r
+Holds (basis a u r) = basisAt a Right u ≡ r
+-- periodic, the domain 0 to 1
+Holds (wraps t r) = wrapped true 0· 1· t ≡ r
+Holds (inverts s m h t r) = inversionBy s (scaleOf s) m h t ≡ r
+-- the period 1
+Holds (nearest value hint r) = nearestTo value hint 1· ≡ r
+Holds (roots x r) = root x ≡ r
+
+abbrev pub All : List Case → Type 0
+All [] = Unit {0}
+All (c ∷ cs) = Holds c × All cs
+
+abbrev pub square-free : Case
+square-free = inverts square mark Nothing ½· (pair ¼· ½· 92)
+
+square-free-holds : Holds square-free
+unfolding compute
+square-free-holds = refl
+
+abbrev pub square-far : Case
+square-far = inverts square mark (At ¼· ½·) ½· (pair ¼· ½· 94)
+
+square-far-holds : Holds square-far
+unfolding compute
+square-far-holds = refl
+
+abbrev pub dot-free : Case
+dot-free = inverts dot (at 3· 4· 0·) Nothing 0· (pair inside inside 83)
+
+dot-free-holds : Holds dot-free
+unfolding compute
+dot-free-holds = refl
+
+abbrev pub light : List Case
+light =
+    weights (least ∷ 1· ∷ []) (Scale 1·)
+    ∷ weights (least ∷ 2· ∷ []) Refused
+    ∷ basis quadratic ½· (sample 0 (three ¼· (neg 1·) 2· ∷ three ½· 0· (neg 4·) ∷ three ¼· 1· 2· ∷ []))
+    ∷ wraps (fin false 5 (negsuc 1)) ¼·
+    ∷ wraps (neg ¼·) ¾·
+    ∷ wraps 1· 1·
+    ∷ inverts square mark (At ¼· ½·) ¾· (pair ¼· ½· 1)
+    ∷ inverts square mark (At ½· ½·) ¾· (pair ¼· ½· 2)
+    ∷ nearest 0· ½· 1·
+    ∷ nearest 0· under-half 0·
+    ∷ nearest 0· (neg ½·) (neg 1·)
+    ∷ nearest -0· (neg three-tenths) -0·
+    ∷ nearest -0· three-tenths 0·
+    ∷ roots least (fin false 1 (negsuc 536))
+    ∷ roots 0· 0·
+    ∷ roots (inf false) (inf false)
+    ∷ []
+
+light-hold : All light
+unfolding compute
+light-hold = (refl, (refl, (refl, (refl, (refl, (refl, (refl, (refl, (refl, (refl, (refl, (refl, (refl, (refl, (refl, (refl, tt))))))))))))))))
+
+abbrev pub rows : List Case
+rows = square-free ∷ square-far ∷ dot-free ∷ light
+
+pub table : All rows
+table = (square-free-holds, (square-far-holds, (dot-free-holds, light-hold)))

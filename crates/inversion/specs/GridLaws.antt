@@ -1,0 +1,182 @@
+-- Laws of the grid's walk, of its starts, and of the nearest grid point, for every evaluation function. Assumes nothing.
+use mathlib.Core.Path.{_≡_, refl, ap}
+use mathlib.Core.Bool.{Bool, true, false, cond}
+use mathlib.Core.List.{List, [], _∷_, List·Memᴰ, List·Memᴰ·head, List·Memᴰ·tail}
+use Prim.Native.Nat.{ℕ, suc, _+_, _*_, _≤_}
+use native.Mathlib.Nat.{add-zero, add-suc, zero-mul, suc-mul}
+use native.Mathlib.Omega.{arith}
+use lib.ListN.{length, take, length-take}
+use lib.Ieee.{Float, le, eq}
+use Rattle.float64.specs.Order.{le-trans, lt-not-le}
+use Rattle.vector3.specs.declared.Vector3.{Vector3}
+use Rattle.patch.specs.declared.Jet.{Jet}
+use Rattle.patch.specs.declared.Evaluated.{Evaluated}
+use Rattle.patch.specs.declared.Evaluated.the-variants.{Found, Refused}
+use Rattle.newton.specs.Run.{fromMark}
+use Rattle.seeds.specs.declared.Start.{Start}
+use Rattle.seeds.specs.Grid.{startAt, Survey, stopped, surveyed, after, seen, alongV, survey, insert, sorted, apartFrom, apart, startsOf}
+use Rattle.inversion.specs.Nearest.{All, all-at, all-map, Number, Nearest, here, there, nearest-member, nearest-least}
+
+-- ---- the walk
+
+-- of k points: one evaluation each, or fewer where one refuses
+abbrev pub Counted : ℕ → Survey → Type 0
+Counted k (stopped n) = (1 ≤ n) × (n ≤ k)
+Counted k (surveyed ps) = length ps ≡ k
+
+-- what holds of the points, where no evaluation refuses
+abbrev pub Sees : (List Start → Type 0) → Survey → Type 0
+Sees P (stopped n) = Unit {0}
+Sees P (surveyed ps) = P ps
+
+after-counted : (k : ℕ) (s : Survey) (p : Start) → Counted k s → Counted (suc k) (after s p)
+unfolding after
+after-counted k (stopped n) p h = (omega arith, omega arith)
+after-counted k (surveyed ps) p h = ap suc h
+
+after-sees : (P : List Start → Type 0) (s : Survey) (p : Start) → ((ps : List Start) → P ps → P (p ∷ ps)) → Sees P s → Sees P (after s p)
+unfolding after
+after-sees P (stopped n) p more h = tt
+after-sees P (surveyed ps) p more h = more ps h
+
+module _ (mark : Vector3) (eval : Float → Float → Evaluated) where
+  seen-counted : (k : ℕ) (rest : Survey) (x y : Float) (e : Evaluated) → Counted k rest → Counted (suc k) (seen mark eval rest x y e)
+  unfolding seen
+  seen-counted k rest x y Refused h = (omega arith, omega arith)
+  seen-counted k rest x y (Found j) h = after-counted k rest _ h
+
+  alongV-counted : (k : ℕ) (x : Float) (ys : List Float) (below : Survey) → Counted k below → Counted (k + length ys) (alongV mark eval x ys below)
+  unfolding alongV
+  alongV-counted k x [] below h = rw add-zero h
+  alongV-counted k x (y ∷ ys) below h = rw add-suc (seen-counted _ _ x y (eval x y) (alongV-counted k x ys below h))
+
+  pub survey-counted : (us vs : List Float) → Counted (length us * length vs) (survey mark eval us vs)
+  unfolding survey
+  survey-counted [] vs = rw zero-mul
+  survey-counted (x ∷ us) vs = rw suc-mul (alongV-counted _ x vs _ (survey-counted us vs))
+
+  -- a point with the distance that its evaluation gives
+  pub record Seen (p : Start) : Type 0 where
+    pub jet : Jet
+    pub found : eval (p .u) (p .v) ≡ Found jet
+    pub distance : p .distance ≡ fromMark mark jet
+
+  module _ (P : List Start → Type 0) (more : (p : Start) → Seen p → (ps : List Start) → P ps → P (p ∷ ps)) where
+    seen-sees : (rest : Survey) (x y : Float) (e : Evaluated) → eval x y ≡ e → Sees P rest → Sees P (seen mark eval rest x y e)
+    unfolding seen
+    seen-sees rest x y Refused p h = tt
+    seen-sees rest x y (Found j) p h = after-sees P rest _ (more _ (record { jet = j; found = p; distance = refl })) h
+
+    alongV-sees : (x : Float) (ys : List Float) (below : Survey) → Sees P below → Sees P (alongV mark eval x ys below)
+    unfolding alongV
+    alongV-sees x [] below h = h
+    alongV-sees x (y ∷ ys) below h = seen-sees _ x y (eval x y) refl (alongV-sees x ys below h)
+
+    survey-sees : P [] → (us vs : List Float) → Sees P (survey mark eval us vs)
+    unfolding survey
+    survey-sees h [] vs = h
+    survey-sees h (x ∷ us) vs = alongV-sees x vs _ (survey-sees h us vs)
+
+  pub survey-seen : (us vs : List Float) → Sees (All Seen) (survey mark eval us vs)
+  survey-seen = survey-sees (All Seen) (λ p s ps h. (s, h)) tt
+
+  -- every pair of a u value with a v value is among the points
+  module _ (x y : Float) (j : Jet) where
+    abbrev Meets : Survey → Type 0
+    Meets = Sees (List·Memᴰ (startAt (fromMark mark j) x y))
+
+    onward : (p : Start) → Seen p → (ps : List Start) → List·Memᴰ (startAt (fromMark mark j) x y) ps → List·Memᴰ (startAt (fromMark mark j) x y) (p ∷ ps)
+    onward p s ps m = List·Memᴰ·tail m
+
+  met : (x y : Float) (j : Jet) (rest : Survey) → Meets x y j (after rest (startAt (fromMark mark j) x y))
+  unfolding after
+  met x y j (stopped n) = tt
+  met x y j (surveyed ps) = List·Memᴰ·head refl
+
+  alongV-meets : (x y : Float) (j : Jet) → eval x y ≡ Found j → (ys : List Float) (below : Survey) → List·Memᴰ y ys → Meets x y j (alongV mark eval x ys below)
+  unfolding alongV seen
+  alongV-meets x y j p (z ∷ ys) below (List·Memᴰ·head e) = rw (← e) (rw p (met x y j (alongV mark eval x ys below)))
+  alongV-meets x y j p (z ∷ ys) below (List·Memᴰ·tail m) =
+      seen-sees _ (onward x y j) _ x z (eval x z) refl (alongV-meets x y j p ys below m)
+
+  pub survey-meets : (x y : Float) (j : Jet) → eval x y ≡ Found j → (us vs : List Float) → List·Memᴰ x us → List·Memᴰ y vs → Meets x y j (survey mark eval us vs)
+  unfolding survey
+  survey-meets x y j p (z ∷ us) vs (List·Memᴰ·head e) m = rw (← e) (alongV-meets x y j p vs (survey mark eval us vs) m)
+  survey-meets x y j p (z ∷ us) vs (List·Memᴰ·tail l) m = alongV-sees _ (onward x y j) z vs _ (survey-meets x y j p us vs l m)
+
+-- ---- the starts
+
+pub starts-six : (ps : List Start) → length (startsOf ps) ≤ 6
+unfolding startsOf
+starts-six ps = omega (arith, length-take 6 (apart (sorted ps)))
+
+insert-some : (p : Start) (qs : List Start) → 1 ≤ length (insert p qs)
+unfolding insert
+insert-some p [] = omega arith
+insert-some p (q ∷ qs) = by (le (p .distance) (q .distance))
+  where
+    by : (t : Bool) → 1 ≤ length (cond t (p ∷ q ∷ qs) (q ∷ insert p qs))
+    by true = omega arith
+    by false = omega arith
+
+apartFrom-some : (p : Start) (qs : List Start) → 1 ≤ length (apartFrom p qs)
+unfolding apartFrom
+apartFrom-some p [] = omega arith
+apartFrom-some p (q ∷ qs) = by (eq (p .distance) (q .distance)) (apartFrom-some p qs)
+  where
+    by : (t : Bool) → 1 ≤ length (apartFrom p qs) → 1 ≤ length (cond t (apartFrom p qs) (p ∷ apartFrom q qs))
+    by true h = h
+    by false h = omega arith
+
+-- of a grid with a point there is a start
+pub starts-some : (ps : List Start) → 1 ≤ length ps → 1 ≤ length (startsOf ps)
+unfolding startsOf sorted apart
+starts-some [] h = h
+starts-some (p ∷ ps) h = by (insert p (sorted ps)) (insert-some p (sorted ps))
+  where
+    by : (qs : List Start) → 1 ≤ length qs → 1 ≤ length (take 6 (apart qs))
+    by [] k = k
+    by (q ∷ qs) k = omega (arith, length-take 6 (apartFrom q qs), apartFrom-some q qs)
+
+abbrev pub away : Start → Float
+away s = s .distance
+
+-- the second list's first is the nearest of the first list
+abbrev pub Fronted : List Start → List Start → Type 0
+Fronted ps [] = ps ≡ []
+Fronted ps (q ∷ qs) = Nearest away q ps
+
+module _ (p : Start) (ps : List Start) (number : All (Number away) (p ∷ ps)) where
+  insert-fronted : (qs : List Start) → Fronted ps qs → Fronted (p ∷ ps) (insert p qs)
+  unfolding insert
+  insert-fronted [] h = rw h (here tt)
+  insert-fronted (q ∷ qs) h = by (le (p .distance) (q .distance)) refl
+    where
+      known : Number away q
+      known = all-at (Number away) (number .1) (nearest-member away h)
+
+      by : (t : Bool) → le (p .distance) (q .distance) ≡ t → Fronted (p ∷ ps) (cond t (p ∷ q ∷ qs) (q ∷ insert p qs))
+      by true l = here (all-map _ _ (λ s k. le-trans (p .distance) (q .distance) (s .distance) l k) ps (nearest-least away known h))
+      by false l = there {b = p} (simp (lt-not-le (q .distance) (p .distance) known (number .0), l)) h
+
+sorted-fronted : (ps : List Start) → All (Number away) ps → Fronted ps (sorted ps)
+unfolding sorted
+sorted-fronted [] n = refl
+sorted-fronted (p ∷ ps) n = insert-fronted p ps n (sorted ps) (sorted-fronted ps (n .1))
+
+apartFrom-fronted : (ps : List Start) (p : Start) (qs : List Start) → Nearest away p ps → Fronted ps (take 6 (apartFrom p qs))
+unfolding apartFrom
+apartFrom-fronted ps p [] h = h
+apartFrom-fronted ps p (q ∷ qs) h = by (eq (p .distance) (q .distance)) (apartFrom-fronted ps p qs h)
+  where
+    by : (t : Bool) → Fronted ps (take 6 (apartFrom p qs)) → Fronted ps (take 6 (cond t (apartFrom p qs) (p ∷ apartFrom q qs)))
+    by true r = r
+    by false r = h
+
+pub starts-fronted : (ps : List Start) → All (Number away) ps → Fronted ps (startsOf ps)
+unfolding startsOf apart
+starts-fronted ps n = by (sorted ps) (sorted-fronted ps n)
+  where
+    by : (qs : List Start) → Fronted ps qs → Fronted ps (take 6 (apart qs))
+    by [] h = h
+    by (q ∷ qs) h = apartFrom-fronted ps q qs h

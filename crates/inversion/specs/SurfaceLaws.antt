@@ -1,0 +1,96 @@
+-- Demand 3 on a surface that passed its checks and a finite mark: what the laws for any evaluation ask of it holds. Assumes nothing.
+use mathlib.Core.Path.{_≡_}
+use mathlib.Core.Bool.{Bool, true, false}
+use mathlib.Core.List.{List·Memᴰ, _++_}
+use Prim.Native.Nat.{ℕ}
+use native.Mathlib.Omega.{arith}
+use lib.ListN.{length}
+use lib.Ieee.{Float, isNan, le}
+use Rattle.float64.specs.Order.{lt→le}
+use Rattle.vector3.specs.declared.Vector3.{Vector3}
+use Rattle.vector3.specs.Laws.{Finite}
+use Rattle.patch.specs.declared.Jet.{Jet}
+use Rattle.patch.specs.declared.Evaluated.the-variants.{Found}
+use Rattle.spline.specs.KnotLaws.{accepted}
+use Rattle.spline.specs.Knots.{Axis, low, high, refusalOfKnots}
+use Rattle.surface.specs.Surface.{Surface, axisU, axisV, refusalOfSurface, evaluateBy}
+use Rattle.surface.specs.SurfaceLaws.{accepted-surface}
+use Rattle.surface.specs.EvaluateLaws.{evaluate-numbers, evaluate-clamped}
+use Rattle.newton.specs.Run.{into, fromMark, nudges}
+use Rattle.newton.specs.RunLaws.{Between}
+use Rattle.seeds.specs.declared.Start.{Start}
+use Rattle.seeds.specs.Axis.{valuesOf}
+use Rattle.seeds.specs.AxisLaws.{axis-count}
+use Rattle.seeds.specs.Finite.{from-mark-number}
+use Rattle.inversion.specs.declared.Hint.{Hint}
+use Rattle.inversion.specs.Inversion.{Answer, refusal, pair, end, price, domainOf, inversionBy}
+use Rattle.inversion.specs.Nearest.{Nearest, First}
+use Rattle.inversion.specs.PriceLaws as Prices
+use Rattle.inversion.specs.InversionLaws as Plain
+use Rattle.inversion.specs.InversionLaws.{Pairs, far}
+use Rattle.inversion.specs.GridLaws.{away}
+
+-- an axis without the flag holds the pair in its knot domain
+abbrev pub Within : Bool → Axis → Float → Type 0
+Within periodic a x = periodic ≡ false → (le (low a) x ≡ true) × (le x (high a) ≡ true)
+
+counted : (a : Axis) → refusalOfKnots a ≡ 0 → Between 1 (length (valuesOf a)) 193
+counted a ok = let c = axis-count a ok in record { above = omega (arith, c .0); under = c .1 }
+
+pairs-map : (P Q : Float → Float → ℕ → Type 0) → ((x y : Float) (n : ℕ) → P x y n → Q x y n) → (a : Answer) → Pairs P a → Pairs Q a
+pairs-map P Q f (refusal n) h = h
+pairs-map P Q f (pair x y n) h = f x y n h
+
+module _ (s : Surface) (m : Float) (ok : refusalOfSurface s ≡ 0) where
+  ends-in-order : (a : Axis) → refusalOfKnots a ≡ 0 → le (low a) (high a) ≡ true
+  ends-in-order a k = lt→le (low a) (high a) (accepted a k .wide)
+
+  -- "an inversion on it has one price, .. 1 to 37,513"
+  pub price-bounds : (mark : Vector3) (hint : Hint) (tolerance : Float) → Between 1 (price (inversionBy s m mark hint tolerance)) 37513
+  unfolding inversionBy
+  price-bounds mark hint tolerance =
+      let a = accepted-surface s ok in
+      Prices.price-bounds (domainOf s) mark (evaluateBy s m) (valuesOf (axisU s)) (valuesOf (axisV s)) (counted (axisU s) (a .knots-u)) (counted (axisV s) (a .knots-v)) hint tolerance
+
+  -- "Before that shift, axes without the periodic flag stay in their knot domain"
+  pub in-domain : (mark : Vector3) (hint : Hint) (tolerance : Float)
+      → Pairs (λ x y n. Within (s .shape .u .periodic) (axisU s) x × Within (s .shape .v .periodic) (axisV s) y) (inversionBy s m mark hint tolerance)
+  unfolding inversionBy domainOf
+  in-domain mark hint tolerance =
+      let a = accepted-surface s ok in
+      pairs-map _ _ (λ x y n h. ((λ f. h .0 f (ends-in-order (axisU s) (a .knots-u))), (λ f. h .1 f (ends-in-order (axisV s) (a .knots-v)))))
+      (inversionBy s m mark hint tolerance)
+      (Plain.in-domain (domainOf s) mark (evaluateBy s m) (valuesOf (axisU s)) (valuesOf (axisV s)) (evaluate-numbers s m) hint tolerance)
+
+  -- no pair is a NaN
+  pub pair-number : (mark : Vector3) (hint : Hint) (tolerance : Float) → Pairs (λ x y n. (isNan x ≡ false) × (isNan y ≡ false)) (inversionBy s m mark hint tolerance)
+  unfolding inversionBy
+  pair-number mark hint tolerance = Plain.pair-number (domainOf s) mark (evaluateBy s m) (valuesOf (axisU s)) (valuesOf (axisV s)) (evaluate-numbers s m) hint tolerance
+
+  module _ (mark : Vector3) (finite : Finite mark) where
+    number : (x y : Float) (j : Jet) → evaluateBy s m x y ≡ Found j → isNan (fromMark mark j) ≡ false
+    number = from-mark-number s m mark finite
+
+    clamped : (x y : Float) (j : Jet) → evaluateBy s m x y ≡ Found j → evaluateBy s m (into (domainOf s .u) x) (into (domainOf s .v) y) ≡ Found j
+    unfolding domainOf into
+    clamped x y j h = evaluate-clamped s m x y j h ok
+
+    -- how an inversion chose, where it did not take the hint run's end as it was
+    abbrev pub Chosen : Float → Hint → Float → Float → ℕ → Type 0
+    Chosen = Plain.Chosen (domainOf s) mark (evaluateBy s m) (valuesOf (axisU s)) (valuesOf (axisV s))
+
+    module _ {tolerance : Float} {hint : Hint} {x y : Float} {n : ℕ} (c : Chosen tolerance hint x y n) where
+      -- "Otherwise it is the nearest of the ends of the hint's run, if any, and of the runs from the first six .. ; the hint wins ties, then the earlier"
+      pub nearest-end : First far (end x y (c .distance)) (c .lead ++ c .others)
+      nearest-end = Plain.ties (domainOf s) mark (evaluateBy s m) (valuesOf (axisU s)) (valuesOf (axisV s)) number c
+
+      -- "every grid point is at least as far as the pair, unless the run from the nearest, the first in the grid among equals, was nudged"
+      pub grid-no-nearer : (p : Start) → Nearest away p (c .points) → nudges (domainOf s) mark (evaluateBy s m) (p .u) (p .v) ≡ false
+          → (a b : Float) → List·Memᴰ a (valuesOf (axisU s)) → List·Memᴰ b (valuesOf (axisV s)) → (j : Jet) → evaluateBy s m a b ≡ Found j → le (c .distance) (fromMark mark j) ≡ true
+      grid-no-nearer = Plain.grid-no-nearer (domainOf s) mark (evaluateBy s m) (valuesOf (axisU s)) (valuesOf (axisV s)) number clamped c
+
+  -- the pair is the hint run's end within the tolerance, or it was chosen among the ends
+  pub paired : (mark : Vector3) (hint : Hint) (tolerance : Float)
+      → Pairs (Plain.Paired (domainOf s) mark (evaluateBy s m) (valuesOf (axisU s)) (valuesOf (axisV s)) tolerance hint) (inversionBy s m mark hint tolerance)
+  unfolding inversionBy
+  paired mark hint tolerance = Plain.plainSteps-paired (domainOf s) mark (evaluateBy s m) (valuesOf (axisU s)) (valuesOf (axisV s)) tolerance hint

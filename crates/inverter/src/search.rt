@@ -1,0 +1,58 @@
+// What a search is given besides the surface, and the shift of its answer to the hint's turn.
+use crate::Period;
+use inversion::Hint;
+use vector3::Vector3;
+ghost use mathlib.Core.Path.{_≡_};
+ghost use Rattle.inverter.specs.Inverter.{nearestTo, shifted, soundHint, soundPeriod, soundSearch};
+ghost use Rattle.patch.specs.Patch.{finiteVector};
+
+// The number equal to `value` but for a whole number of periods that is nearest to `hint`.
+pub fn nearest(value: f64, hint: f64, period: f64) -> f64
+    ensures { λ r. ⌜ r ≡ nearestTo value hint period ⌝ }
+{
+    value + period * float64::round((hint - value) / period)
+}
+
+pub fn shift(period: Period, hint: f64, value: f64) -> f64
+    ensures { λ r. ⌜ r ≡ shifted period hint value ⌝ }
+{
+    match period {
+        Period::Free => value,
+        Period::Every(p) => nearest(value, hint, p),
+    }
+}
+
+fn sound_hint(hint: Hint) -> bool
+    ensures { λ r. ⌜ r ≡ soundHint hint ⌝ }
+{
+    match hint {
+        Hint::Nothing => true,
+        Hint::At(u, v) => float64::is_finite(u) & float64::is_finite(v),
+    }
+}
+
+fn sound_period(period: Period) -> bool
+    ensures { λ r. ⌜ r ≡ soundPeriod period ⌝ }
+{
+    match period {
+        Period::Free => true,
+        Period::Every(p) => float64::is_finite(p) & (0.0 < p),
+    }
+}
+
+fn finite_mark(mark: Vector3) -> bool
+    ensures { λ r. ⌜ r ≡ finiteVector mark ⌝ }
+{
+    float64::is_finite(mark.x) & float64::is_finite(mark.y) & float64::is_finite(mark.z)
+}
+
+// Check 7. A tolerance of -0 passes.
+pub fn sound(mark: Vector3, hint: Hint, tolerance: f64, pu: Period, pv: Period) -> bool
+    ensures { λ r. ⌜ r ≡ soundSearch mark hint tolerance pu pv ⌝ }
+{
+    finite_mark(mark)
+        & sound_hint(hint)
+        & (float64::is_finite(tolerance) & (0.0 <= tolerance))
+        & sound_period(pu)
+        & sound_period(pv)
+}
