@@ -5,24 +5,32 @@ use surface::Counts;
 use surface::Shape;
 ghost use mathlib.Core.Path.{_≡_};
 ghost use mathlib.Core.Bool.{false};
+ghost use Rattle.float64.specs.Functions.{root};
 ghost use Rattle.spline.specs.Knots.{axis, refusalOfKnots};
-ghost use Rattle.surface.specs.Surface.{surface, refusalOfSurface};
+ghost use Rattle.spline.specs.declared.parameter.KnotSide.the-variants.{Right};
+ghost use Rattle.basis.specs.Basis.{basisAt};
+ghost use Rattle.surface.specs.Surface.{surface, refusalOfSurface, evaluateBy};
+ghost use Rattle.timing.specs.Digest.{ofSample, ofJet};
 
 #[no_mangle]
-pub extern "C" fn time_root(x: f64) -> f64 {
+pub extern "C" fn time_root(x: f64) -> f64
+    ensures { λ r. ⌜ r ≡ root x ⌝ }
+{
     float64::root(x)
 }
 
-// A number of each row.
 #[no_mangle]
 pub extern "C" fn time_basis(knots: &[f64], degree: usize, controls: usize, u: f64) -> f64
     requires { ⌜ refusalOfKnots (axis degree controls (now knots)) ≡ 0 ⌝ }
+    ensures { λ r. ⌜ r ≡ ofSample (basisAt (axis degree controls (now (knots .entry))) Right u) ⌝ }
 {
     let b = basis::basis_on_side(knots, degree, controls, u, KnotSide::Right);
+    if !b.found {
+        return 0.0f64 / 0.0f64;
+    }
     b.values[0] + b.firsts[0] + b.seconds[0]
 }
 
-// A number of the point and of each first derivative, or a NaN where the evaluation refuses.
 #[no_mangle]
 pub extern "C" fn time_evaluate(
     pu: usize,
@@ -38,6 +46,7 @@ pub extern "C" fn time_evaluate(
     v: f64,
 ) -> f64
     requires { ⌜ refusalOfSurface (surface (record { u = record { degree = pu; controls = nu; periodic = false }; v = record { degree = pv; controls = nv; periodic = false } }) (now ku) (now kv) (now controls) (now weights)) ≡ 0 ⌝ }
+    ensures { λ r. ⌜ r ≡ ofJet (evaluateBy (surface (record { u = record { degree = pu; controls = nu; periodic = false }; v = record { degree = pv; controls = nv; periodic = false } }) (now (ku .entry)) (now (kv .entry)) (now (controls .entry)) (now (weights .entry))) scale u v) ⌝ }
 {
     let shape = Shape {
         u: Counts {
@@ -51,8 +60,8 @@ pub extern "C" fn time_evaluate(
             periodic: false,
         },
     };
-    let Evaluated::Found(j) = surface::surface_jet(shape, ku, kv, controls, weights, scale, u, v)
-    else {
+    let jet = surface::surface_jet(shape, ku, kv, controls, weights, scale, u, v);
+    let Evaluated::Found(j) = jet else {
         return 0.0f64 / 0.0f64;
     };
     j.x + j.uy + j.vz

@@ -1,0 +1,60 @@
+// The part of a record that says which surface is lent.
+use replay::Cursor;
+use replay::Part;
+use surface::Counts;
+use surface::Shape;
+ghost use lib.ListN.{length};
+ghost use Rattle.replay.specs.Cursors.{Within};
+
+// The shape, and where in the record the numbers stand that are lent with it. The record goes on where the weights end.
+pub struct Lent {
+    pub shape: Shape,
+    pub ku: Part,
+    pub kv: Part,
+    pub controls: Part,
+    pub weights: Part,
+}
+
+// Both degrees, both counts of controls, the flags; then four lists of numbers.
+pub fn lent_surface(c: Cursor, words: &[u64]) -> Lent
+    ensures { λ r. ⌜ Within (length (now (words .entry))) (r .ku) ⌝ }
+    ensures { λ r. ⌜ Within (length (now (words .entry))) (r .kv) ⌝ }
+    ensures { λ r. ⌜ Within (length (now (words .entry))) (r .controls) ⌝ }
+    ensures { λ r. ⌜ Within (length (now (words .entry))) (r .weights) ⌝ }
+{
+    let du = c.word(words);
+    let c = du.next;
+    let dv = c.word(words);
+    let c = dv.next;
+    let nu = c.word(words);
+    let c = nu.next;
+    let nv = c.word(words);
+    let c = nv.next;
+    let flags = c.word(words);
+    let c = flags.next;
+    let ku = c.numbers(words);
+    let c = ku.next;
+    let kv = c.numbers(words);
+    let c = kv.next;
+    let controls = c.numbers(words);
+    let c = controls.next;
+    let weights = c.numbers(words);
+    let u = Counts {
+        degree: du.value as usize,
+        controls: nu.value as usize,
+        periodic: flags.value % 2 == 1,
+    };
+    let v = Counts {
+        degree: dv.value as usize,
+        controls: nv.value as usize,
+        periodic: flags.value / 2 % 2 == 1,
+    };
+    let shape = Shape { u, v };
+    Lent {
+        shape,
+        ku,
+        kv,
+        controls,
+        weights,
+    }
+}
