@@ -1,8 +1,8 @@
--- `roundAway` is the nearest whole number, a half away from zero, for every double. Assumes nothing.
+-- `roundAway` is the nearest whole number, a half away from zero, for every double, and leaves one as it is. Assumes nothing.
 use mathlib.Core.Path.{_≡_, refl, sym, ap, _∙_, subst}
 use mathlib.Core.Bool.{Bool}
 use Prim.Native.Nat.{ℕ, suc, _+_, _*_, _/_, _^_, _≤_, _<_}
-use native.Mathlib.Nat.{le-of-suc-le-suc, mul-one, mul-add, mul-right-comm, mul-pos, mul-div-le, div-lt-iff-lt-mul, lt-mul-div-succ}
+use native.Mathlib.Nat.{le-of-suc-le-suc, add-zero, mul-one, mul-comm, mul-assoc, mul-add, mul-right-comm, mul-pos, mul-div-le, mul-add-div-right, div-eq-of-lt, div-lt-iff-lt-mul, lt-mul-div-succ}
 use native.Mathlib.Omega.{arith}
 use lib.IntN.{ℤ, pos, negsuc}
 use lib.Dec.{T, lit<}
@@ -10,7 +10,7 @@ use lib.Pow.{pow-pos}
 use lib.Ieee.{Float, nan, inf, fin, binary64, up, down, round, fits}
 use lib.Ieee.Fits.{down-pos, nan-fits, inf-fits, round-fits}
 use lib.Ieee.Exact.{HasValue, round-exact}
-use lib.Ieee.Back.{round-whole}
+use lib.Ieee.Back.{round-whole, whole-unique}
 use Rattle.float64.specs.Functions.{roundAway}
 use Rattle.float64.specs.Units.{Double, double, units-counted}
 
@@ -80,3 +80,24 @@ round-away-nan = refl
 pub round-away-inf : (s : Bool) → roundAway (inf s) ≡ inf s
 unfolding roundAway
 round-away-inf s = refl
+
+multiple-itself : (w d : ℕ) → 0 < d → nearestWhole (w * d) d ≡ w
+multiple-itself w d h =
+    ap (λ (x : ℕ). (x + d) / (2 * d)) (mul-assoc w d 2 ∙ ap (λ (x : ℕ). w * x) (mul-comm d 2))
+    ∙ mul-add-div-right (mul-pos (lit< tt) h) w d
+    ∙ ap (λ (x : ℕ). w + x) (div-eq-of-lt {n = d} {m = 2 * d} (omega arith))
+    ∙ add-zero w
+
+-- a whole number stays as it is
+pub round-away-whole : (x : Float) (s : Bool) (w : ℕ) → T (fits binary64 x) → HasValue x s w 1 → roundAway x ≡ x
+round-away-whole (fin t m e) s w f h =
+    let same = ap (λ (a : ℕ). nearestWhole a (down e)) (sym (mul-one (m * up e)) ∙ h .1) ∙ multiple-itself w (down e) (down-pos e) in
+    whole-unique binary64 (roundAway (fin t m e)) (fin t m e) t w (round-away-fits (fin t m e)) f
+    (subst (λ (k : ℕ). HasValue (roundAway (fin t m e)) t k 1) same (round-away-value t m e f))
+    (refl, h .1)
+
+pub round-away-twice : (x : Float) → T (fits binary64 x) → roundAway (roundAway x) ≡ roundAway x
+round-away-twice nan f = ap roundAway round-away-nan
+round-away-twice (inf s) f = ap roundAway (round-away-inf s)
+round-away-twice (fin s m e) f =
+    round-away-whole (roundAway (fin s m e)) s (nearestWhole (m * up e) (down e)) (round-away-fits (fin s m e)) (round-away-value s m e f)

@@ -81,7 +81,7 @@ abbrev pub Pairs : (Float → Float → ℕ → Type 0) → Answer → Type 0
 Pairs P (refusal n) = Unit {0}
 Pairs P (pair x y n) = P x y n
 
-pairs-map : (P Q : Float → Float → ℕ → Type 0) → ((x y : Float) (n : ℕ) → P x y n → Q x y n) → (a : Answer) → Pairs P a → Pairs Q a
+pub pairs-map : (P Q : Float → Float → ℕ → Type 0) → ((x y : Float) (n : ℕ) → P x y n → Q x y n) → (a : Answer) → Pairs P a → Pairs Q a
 pairs-map P Q f (refusal n) h = tt
 pairs-map P Q f (pair x y n) h = f x y n h
 

@@ -23,11 +23,11 @@ use Rattle.seeds.specs.Axis.{valuesOf}
 use Rattle.seeds.specs.AxisLaws.{axis-count}
 use Rattle.seeds.specs.Finite.{from-mark-number}
 use Rattle.inversion.specs.declared.Hint.{Hint}
-use Rattle.inversion.specs.Inversion.{Answer, refusal, pair, end, price, domainOf, inversionBy}
+use Rattle.inversion.specs.Inversion.{end, price, domainOf, inversionBy}
 use Rattle.inversion.specs.Nearest.{Nearest, First}
 use Rattle.inversion.specs.PriceLaws as Prices
 use Rattle.inversion.specs.InversionLaws as Plain
-use Rattle.inversion.specs.InversionLaws.{Pairs, far}
+use Rattle.inversion.specs.InversionLaws.{Pairs, pairs-map, far}
 use Rattle.inversion.specs.GridLaws.{away}
 
 -- an axis without the flag holds the pair in its knot domain
@@ -36,10 +36,6 @@ Within periodic a x = periodic ≡ false → (le (low a) x ≡ true) × (le x (h
 
 counted : (a : Axis) → refusalOfKnots a ≡ 0 → Between 1 (length (valuesOf a)) 193
 counted a ok = let c = axis-count a ok in record { above = omega (arith, c .0); under = c .1 }
-
-pairs-map : (P Q : Float → Float → ℕ → Type 0) → ((x y : Float) (n : ℕ) → P x y n → Q x y n) → (a : Answer) → Pairs P a → Pairs Q a
-pairs-map P Q f (refusal n) h = h
-pairs-map P Q f (pair x y n) h = f x y n h
 
 module _ (s : Surface) (m : Float) (ok : refusalOfSurface s ≡ 0) where
   ends-in-order : (a : Axis) → refusalOfKnots a ≡ 0 → le (low a) (high a) ≡ true

@@ -1,2 +1,3 @@
 pub mod Inverter
+pub mod PlacingLaws
 pub mod Compute
