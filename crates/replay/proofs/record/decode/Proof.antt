@@ -1,14 +1,13 @@
 -- `record::decode` meets its contract. The invariant: the words below i stand as they are to. Assumes nothing.
 use mathlib.Core.Path.{_≡_, _∙_, ap}
 use mathlib.Core.List.{List}
-use Prim.Native.Nat.{ℕ, _+_, _*_, _-_, _≤_, _<_}
+use Prim.Native.Nat.{ℕ, _+_, _-_, _≤_, _<_}
 use native.Mathlib.Omega.{arith}
 use lib.ListN.{length, getD, set, length-set}
 use lib.Seq.{getD-set-same, getD-set-other}
 use lib.Ieee.{nan, binary64, ofBits}
 use borrow.Author.Count.{below-none, below-more}
 use borrow.Author.Needs.{needs}
-use Rattle.answers.specs.Words.{littleEndian}
 use Rattle.replay.specs.Records.{Decoded}
 use Rattle.replay.proofs.record.decode.Statement.{statement}
 use Rattle.replay.proofs.record.decode.Tie as tie

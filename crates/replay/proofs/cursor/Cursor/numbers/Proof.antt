@@ -1,5 +1,5 @@
 -- `Cursor::numbers` meets its contract: it takes as many words as its first one says. Assumes nothing.
-use mathlib.Core.Path.{_≡_, sym, _∙_}
+use mathlib.Core.Path.{_∙_}
 use borrow.Author.Needs.{needs}
 use Rattle.replay.specs.Cursors.{numbersAt}
 use Rattle.replay.proofs.cursor.Cursor.numbers.Statement.{statement}
