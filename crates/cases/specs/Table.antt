@@ -19,7 +19,10 @@ use Rattle.surface.specs.Surface.{Surface, surface, scaleOf, wrapped}
 use Rattle.inversion.specs.declared.Hint.{Hint}
 use Rattle.inversion.specs.declared.Hint.the-variants.{Nothing, At}
 use Rattle.inversion.specs.Inversion.{Answer, pair, inversionBy}
+use Rattle.inverter.specs.declared.Placing.{Placing}
+use Rattle.inverter.specs.declared.Placing.the-variants.{Pair, Refusal}
 use Rattle.inverter.specs.Inverter.{nearestTo}
+use Rattle.inverter.specs.Preimage.{derived}
 use Rattle.inverter.specs.Compute.{compute}
 
 -- ---- numbers and surfaces of the table
@@ -38,6 +41,12 @@ abbrev 3· : Float
 
 abbrev 4· : Float
 4· = fin false 1 (pos 2)
+
+abbrev 5· : Float
+5· = fin false 5 (pos 0)
+
+abbrev 7· : Float
+7· = fin false 7 (pos 0)
 
 -- 2 ^ -1074, the smallest
 abbrev least : Float
@@ -86,6 +95,7 @@ pub data Case : Type 0 where
   basis : Axis → Float → Sample → Case
   wraps : Float → Float → Case
   inverts : Surface → Vector3 → Hint → Float → Answer → Case
+  derives : Surface → Float → Float → Vector3 → Placing → Case
   nearest : Float → Float → Float → Case
   roots : Float → Float → Case
 
@@ -95,6 +105,8 @@ Holds (basis a u r) = basisAt a Right u ≡ r
 -- periodic, the domain 0 to 1
 Holds (wraps t r) = wrapped true 0· 1· t ≡ r
 Holds (inverts s m h t r) = inversionBy s (scaleOf s) m h t ≡ r
+-- a budget of 1
+Holds (derives s u v d r) = derived s u v d 1 ≡ r
 -- the period 1
 Holds (nearest value hint r) = nearestTo value hint 1· ≡ r
 Holds (roots x r) = root x ≡ r
@@ -134,6 +146,8 @@ light =
     ∷ wraps 1· 1·
     ∷ inverts square mark (At ¼· ½·) ¾· (pair ¼· ½· 1)
     ∷ inverts square mark (At ½· ½·) ¾· (pair ¼· ½· 2)
+    ∷ derives square ¼· ½· (at 3· 5· 7·) (Pair 3· 5· 1)
+    ∷ derives dot ¼· ½· (at 3· 5· 7·) (Refusal 10 1)
     ∷ nearest 0· ½· 1·
     ∷ nearest 0· under-half 0·
     ∷ nearest 0· (neg ½·) (neg 1·)
@@ -146,7 +160,7 @@ light =
 
 light-hold : All light
 unfolding compute
-light-hold = (refl, (refl, (refl, (refl, (refl, (refl, (refl, (refl, (refl, (refl, (refl, (refl, (refl, (refl, (refl, (refl, tt))))))))))))))))
+light-hold = (refl, (refl, (refl, (refl, (refl, (refl, (refl, (refl, (refl, (refl, (refl, (refl, (refl, (refl, (refl, (refl, (refl, (refl, tt))))))))))))))))))
 
 abbrev pub rows : List Case
 rows = square-free ∷ square-far ∷ dot-free ∷ light

@@ -1,6 +1,6 @@
 -- What the call that places a mark answers, for all input. Definitions only.
-use Prim.Native.Nat.{ℕ, _-_}
-use mathlib.Core.Bool.{Bool, true, cond, _&&_}
+use Prim.Native.Nat.{ℕ, zero, suc, _-_}
+use mathlib.Core.Bool.{Bool, true, false, cond, _&&_}
 use lib.Ieee.{Float, lt, le}
 use Rattle.float64.specs.Operators.{_⊕_, _⊖_, _⊗_, _⊘_, 0·}
 use Rattle.float64.specs.Functions.{isFinite, roundAway}
@@ -29,8 +29,12 @@ unfoldable pub soundPeriod : Period → Bool
 soundPeriod Free = true
 soundPeriod (Every p) = isFinite p && lt 0· p
 
+-- of all but the mark
+unfoldable pub soundTerms : Hint → Float → Period → Period → Bool
+soundTerms hint tolerance pu pv = soundHint hint && (isFinite tolerance && le 0· tolerance) && soundPeriod pu && soundPeriod pv
+
 unfoldable pub soundSearch : Vector3 → Hint → Float → Period → Period → Bool
-soundSearch mark hint tolerance pu pv = finiteVector mark && soundHint hint && (isFinite tolerance && le 0· tolerance) && soundPeriod pu && soundPeriod pv
+soundSearch mark hint tolerance pu pv = finiteVector mark && soundTerms hint tolerance pu pv
 
 -- ---- the shift by periods, to the hint's turn
 
@@ -56,12 +60,20 @@ outcome budget hint pu pv Inverted.Spent = Refusal 8 budget
 unfoldable pub searched : Surface → Float → Vector3 → Hint → Float → Period → Period → ℕ → Bool → Placing
 searched s m mark hint tolerance pu pv budget sound = cond sound (outcome budget hint pu pv (spend budget (inversionBy s m mark hint tolerance))) (Refusal 7 0)
 
-unfoldable pub placedBy : Surface → Checked → Vector3 → Hint → Float → Period → Period → ℕ → Placing
-placedBy s (Check.Refusal n) mark hint tolerance pu pv budget = Refusal n 0
-placedBy s (Check.Scale m) mark hint tolerance pu pv budget = searched s m mark hint tolerance pu pv budget (soundSearch mark hint tolerance pu pv)
+-- a refused surface's number, or what comes of its largest weight
+unfoldable pub onChecked : Checked → (Float → Placing) → Placing
+onChecked (Check.Refusal n) f = Refusal n 0
+onChecked (Check.Scale m) f = f m
 
 unfoldable pub placed : Surface → Vector3 → Hint → Float → Period → Period → ℕ → Placing
-placed s mark hint tolerance pu pv budget = placedBy s (checked s) mark hint tolerance pu pv budget
+placed s mark hint tolerance pu pv budget = onChecked (checked s) (λ m. searched s m mark hint tolerance pu pv budget (soundSearch mark hint tolerance pu pv))
+
+-- ---- a call of one unit, charged after check 7
+
+unfoldable pub charged : Bool → ℕ → Placing → Placing
+charged false budget p = Refusal 7 0
+charged true zero p = Refusal 8 0
+charged true (suc k) p = p
 
 -- ---- 01's values of an answer: its number, 0 for a pair, and the budget left
 

@@ -1,3 +1,5 @@
 pub mod Inverter
+pub mod Plane
+pub mod Preimage
 pub mod PlacingLaws
 pub mod Compute

@@ -21,7 +21,7 @@ use Rattle.inversion.specs.SurfaceLaws.{price-bounds}
 use Rattle.inverter.specs.declared.Period.{Period}
 use Rattle.inverter.specs.declared.Placing.{Placing}
 use Rattle.inverter.specs.declared.Placing.the-variants.{Refusal}
-use Rattle.inverter.specs.Inverter.{soundSearch, nearestTo, turned, outcome, searched, placedBy, placed, numberOf, leftOf}
+use Rattle.inverter.specs.Inverter.{soundSearch, nearestTo, turned, outcome, searched, onChecked, placed, numberOf, leftOf}
 
 -- ---- the budget
 
@@ -71,7 +71,7 @@ module _ (hint : Hint) (pu pv : Period) where
     steps = inversionBy s (scaleOf s) mark hint tolerance
 
     answer-is : (budget : ℕ) → placed s mark hint tolerance pu pv budget ≡ outcome budget hint pu pv (spend budget steps)
-    unfolding placed checked judged placedBy searched
+    unfolding placed checked judged onChecked searched
     answer-is budget = simp (ok, sound)
 
     answer-enough : (budget : ℕ) → Inversion.price steps ≤ budget → placed s mark hint tolerance pu pv budget ≡ resultOf steps

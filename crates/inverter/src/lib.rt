@@ -1,12 +1,19 @@
 // The calls that place a mark. Each tests its own input.
+mod plane;
+mod preimage;
 mod search;
 
 use inversion::Hint;
 use inversion::Inverted;
 use inversion::invert_nurbs;
+pub use plane::Frame;
+pub use plane::invert_plane;
+pub use preimage::derivative;
+pub use search::finite_vector;
 pub use search::nearest;
 use search::shift;
 use search::sound;
+pub use search::sound_terms;
 use surface::Checked;
 use surface::Shape;
 use surface::check;
@@ -21,7 +28,7 @@ pub enum Period {
     Every(f64),
 }
 
-// A pair and the units taken, or the number of a refusal and the units taken.
+// The pair that a call answers and the units taken, or the number of a refusal and the units taken.
 pub enum Placing {
     Pair(f64, f64, u64),
     Refusal(u64, u64),
@@ -64,7 +71,7 @@ pub fn invert(
 }
 
 // Of a surface that passed its checks.
-fn invert_checked(
+pub fn invert_checked(
     shape: Shape,
     ku: &[f64],
     kv: &[f64],

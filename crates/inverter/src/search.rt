@@ -3,7 +3,7 @@ use crate::Period;
 use inversion::Hint;
 use vector3::Vector3;
 ghost use mathlib.Core.Path.{_≡_};
-ghost use Rattle.inverter.specs.Inverter.{nearestTo, shifted, soundHint, soundPeriod, soundSearch};
+ghost use Rattle.inverter.specs.Inverter.{nearestTo, shifted, soundHint, soundPeriod, soundTerms, soundSearch};
 ghost use Rattle.patch.specs.Patch.{finiteVector};
 
 // The number equal to `value` but for a whole number of periods that is nearest to `hint`.
@@ -40,19 +40,25 @@ fn sound_period(period: Period) -> bool
     }
 }
 
-fn finite_mark(mark: Vector3) -> bool
-    ensures { λ r. ⌜ r ≡ finiteVector mark ⌝ }
+pub fn finite_vector(a: Vector3) -> bool
+    ensures { λ r. ⌜ r ≡ finiteVector a ⌝ }
 {
-    float64::is_finite(mark.x) & float64::is_finite(mark.y) & float64::is_finite(mark.z)
+    float64::is_finite(a.x) & float64::is_finite(a.y) & float64::is_finite(a.z)
 }
 
-// Check 7. A tolerance of -0 passes.
-pub fn sound(mark: Vector3, hint: Hint, tolerance: f64, pu: Period, pv: Period) -> bool
-    ensures { λ r. ⌜ r ≡ soundSearch mark hint tolerance pu pv ⌝ }
+// Check 7 of all but the mark. A tolerance of -0 passes.
+pub fn sound_terms(hint: Hint, tolerance: f64, pu: Period, pv: Period) -> bool
+    ensures { λ r. ⌜ r ≡ soundTerms hint tolerance pu pv ⌝ }
 {
-    finite_mark(mark)
-        & sound_hint(hint)
+    sound_hint(hint)
         & (float64::is_finite(tolerance) & (0.0 <= tolerance))
         & sound_period(pu)
         & sound_period(pv)
+}
+
+// Check 7.
+pub fn sound(mark: Vector3, hint: Hint, tolerance: f64, pu: Period, pv: Period) -> bool
+    ensures { λ r. ⌜ r ≡ soundSearch mark hint tolerance pu pv ⌝ }
+{
+    finite_vector(mark) & sound_terms(hint, tolerance, pu, pv)
 }

@@ -2,10 +2,13 @@
 mod round;
 
 use patch::Evaluated;
+pub use round::along_u;
+pub use round::along_v;
 use round::from_mark;
 use round::into;
 use round::judge;
 use round::plan_from;
+pub use round::point_of;
 use surface::Shape;
 use surface::surface_jet;
 use vector3::Vector3;

@@ -22,7 +22,7 @@ pub fn from_mark(mark: Vector3, j: Jet) -> f64
     distance(point_of(j), mark)
 }
 
-fn point_of(j: Jet) -> Vector3
+pub fn point_of(j: Jet) -> Vector3
     ensures { λ r. ⌜ r ≡ Run.pointOf j ⌝ }
 {
     Vector3 {
@@ -32,7 +32,7 @@ fn point_of(j: Jet) -> Vector3
     }
 }
 
-fn along_u(j: Jet) -> Vector3
+pub fn along_u(j: Jet) -> Vector3
     ensures { λ r. ⌜ r ≡ Run.alongU j ⌝ }
 {
     Vector3 {
@@ -42,7 +42,7 @@ fn along_u(j: Jet) -> Vector3
     }
 }
 
-fn along_v(j: Jet) -> Vector3
+pub fn along_v(j: Jet) -> Vector3
     ensures { λ r. ⌜ r ≡ Run.alongV j ⌝ }
 {
     Vector3 {

@@ -1,5 +1,6 @@
 use mathlib.Core.Path.{sym, _∙_}
 use Rattle.surface.specs.SurfaceLaws.{checked-scale}
+use Rattle.inverter.specs.Inverter.{placed}
 use Rattle.inverter.proofs.Steps.{refused, passed}
 use borrow.Author.Needs.{needs}
 use Rattle.inverter.proofs.invert.Statement.{statement}
@@ -18,10 +19,12 @@ invert-checked-requires : tie.Need-invert-checked-requires
 invert-checked-requires c κs = checked-scale _ _ (sym (c .before .before .before .check .ensures) ∙ c .before .checked2 .given .1) .0
 
 returns : tie.Need-returns
-returns c = refused _ _ _ _ _ _ _ (c .before .before .before .check .ensures) (c .before .checked .given .1)
+unfolding placed
+returns c = refused _ _ (c .before .before .before .check .ensures) (c .before .checked .given .1)
 
 returns-2 : tie.Need-returns-2
-returns-2 c = passed _ _ _ _ _ _ _ (c .before .before .before .before .check .ensures) (c .before .before .checked2 .given .1) (c .invert-checked .ensures)
+unfolding placed
+returns-2 c = passed _ _ (c .before .before .before .before .check .ensures) (c .before .before .checked2 .given .1) (c .invert-checked .ensures)
 
 pub invert-spec : {M : Type 1} → statement M
 invert-spec =

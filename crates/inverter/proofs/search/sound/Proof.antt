@@ -3,32 +3,15 @@ use borrow.Author.Needs.{needs}
 use Rattle.inverter.proofs.search.sound.Statement.{statement}
 use Rattle.inverter.proofs.search.sound.Tie as tie
 
-finite-mark-requires : tie.Need-finite-mark-requires
-finite-mark-requires c κs = search needs
+finite-vector-requires : tie.Need-finite-vector-requires
+finite-vector-requires c κs = search needs
 
-sound-hint-requires : tie.Need-sound-hint-requires
-sound-hint-requires c κs = search needs
-
-is-finite-requires : tie.Need-is-finite-requires
-is-finite-requires c κs = search needs
-
-sound-period-requires : tie.Need-sound-period-requires
-sound-period-requires c κs = search needs
-
-sound-period-requires-2 : tie.Need-sound-period-requires-2
-sound-period-requires-2 c κs = search needs
+sound-terms-requires : tie.Need-sound-terms-requires
+sound-terms-requires c κs = search needs
 
 returns : tie.Need-returns
 unfolding soundSearch
-returns c = rw (c .before .before .before .before .finite-mark .ensures, c .before .before .before .sound-hint .ensures, c .before .before .is-finite .ensures, c .before .sound-period .ensures, c .sound-period2 .ensures)
+returns c = rw (c .before .finite-vector .ensures, c .sound-terms .ensures)
 
 pub sound-spec : {M : Type 1} → statement M
-sound-spec =
-    tie.close
-    (tie.spec
-    finite-mark-requires
-    sound-hint-requires
-    is-finite-requires
-    sound-period-requires
-    sound-period-requires-2
-    returns)
+sound-spec = tie.close (tie.spec finite-vector-requires sound-terms-requires returns)

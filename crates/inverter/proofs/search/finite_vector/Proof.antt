@@ -1,7 +1,7 @@
 use Rattle.patch.specs.Patch.{finiteVector}
 use borrow.Author.Needs.{needs}
-use Rattle.inverter.proofs.search.finite_mark.Statement.{statement}
-use Rattle.inverter.proofs.search.finite_mark.Tie as tie
+use Rattle.inverter.proofs.search.finite_vector.Statement.{statement}
+use Rattle.inverter.proofs.search.finite_vector.Tie as tie
 
 is-finite-requires : tie.Need-is-finite-requires
 is-finite-requires c κs = search needs
@@ -16,6 +16,6 @@ returns : tie.Need-returns
 unfolding finiteVector
 returns c = rw (c .before .before .is-finite .ensures, c .before .is-finite2 .ensures, c .is-finite3 .ensures)
 
-pub finite-mark-spec : {M : Type 1} → statement M
-finite-mark-spec =
+pub finite-vector-spec : {M : Type 1} → statement M
+finite-vector-spec =
     tie.close (tie.spec is-finite-requires is-finite-requires-2 is-finite-requires-3 returns)

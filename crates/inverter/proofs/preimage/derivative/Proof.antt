@@ -1,0 +1,38 @@
+use mathlib.Core.Path.{sym, _∙_}
+use Rattle.surface.specs.SurfaceLaws.{checked-scale}
+use Rattle.inverter.specs.Preimage.{derived}
+use Rattle.inverter.proofs.Steps.{refused, passed}
+use borrow.Author.Needs.{needs}
+use Rattle.inverter.proofs.preimage.derivative.Statement.{statement}
+use Rattle.inverter.proofs.preimage.derivative.Tie as tie
+
+check-requires : tie.Need-check-requires
+check-requires c κs = search needs
+
+enum-known-checked : tie.Need-enum-known-checked
+enum-known-checked c = search needs
+
+enum-known-checked-2 : tie.Need-enum-known-checked-2
+enum-known-checked-2 c = search needs
+
+derivative-checked-requires : tie.Need-derivative-checked-requires
+derivative-checked-requires c κs = checked-scale _ _ (sym (c .before .before .before .check .ensures) ∙ c .before .checked2 .given .1) .0
+
+returns : tie.Need-returns
+unfolding derived
+returns c = refused _ _ (c .before .before .before .check .ensures) (c .before .checked .given .1)
+
+returns-2 : tie.Need-returns-2
+unfolding derived
+returns-2 c = passed _ _ (c .before .before .before .before .check .ensures) (c .before .before .checked2 .given .1) (c .derivative-checked .ensures)
+
+pub derivative-spec : {M : Type 1} → statement M
+derivative-spec =
+    tie.close
+    (tie.spec
+    check-requires
+    enum-known-checked
+    enum-known-checked-2
+    derivative-checked-requires
+    returns
+    returns-2)

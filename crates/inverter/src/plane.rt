@@ -1,0 +1,45 @@
+// A mark on a plane.
+use crate::Placing;
+use crate::search::finite_vector;
+use vector3::Vector3;
+use vector3::dot;
+use vector3::sub;
+ghost use mathlib.Core.Path.{_≡_};
+ghost use Rattle.inverter.specs.Plane.{soundPlane, localOf, placedOn};
+
+// An origin and two axes, taken as they are lent.
+pub struct Frame {
+    pub origin: Vector3,
+    pub x: Vector3,
+    pub y: Vector3,
+}
+
+// Check 7.
+fn sound_plane(frame: Frame, mark: Vector3) -> bool
+    ensures { λ r. ⌜ r ≡ soundPlane frame mark ⌝ }
+{
+    finite_vector(frame.origin)
+        & finite_vector(frame.x)
+        & finite_vector(frame.y)
+        & finite_vector(mark)
+}
+
+fn local(frame: Frame, mark: Vector3) -> Placing
+    ensures { λ r. ⌜ r ≡ localOf frame mark ⌝ }
+{
+    let d = sub(mark, frame.origin);
+    Placing::Pair(dot(d, frame.x), dot(d, frame.y), 1)
+}
+
+// The coordinates of a mark in a plane's frame, for one unit.
+pub fn invert_plane(frame: Frame, mark: Vector3, budget: u64) -> Placing
+    ensures { λ r. ⌜ r ≡ placedOn frame mark budget ⌝ }
+{
+    if !sound_plane(frame, mark) {
+        return Placing::Refusal(7, 0);
+    }
+    if budget == 0 {
+        return Placing::Refusal(8, 0);
+    }
+    local(frame, mark)
+}
