@@ -3,6 +3,7 @@
 use mathlib.Core.Path.{_≡_, refl}
 use mathlib.Core.Bool.{true, false}
 use mathlib.Core.List.{List, [], _∷_}
+use Prim.Native.Nat.{ℕ}
 use lib.IntN.{pos, negsuc}
 use lib.Ieee.{Float, inf, fin, neg}
 use Rattle.float64.specs.Operators.{0·, ½·, 1·, 2·}
@@ -24,6 +25,12 @@ use Rattle.inverter.specs.declared.Placing.the-variants.{Pair, Refusal}
 use Rattle.inverter.specs.Inverter.{nearestTo}
 use Rattle.inverter.specs.Preimage.{derived}
 use Rattle.inverter.specs.Compute.{compute}
+use Rattle.edges.specs.declared.Edge.{Edge}
+use Rattle.edges.specs.declared.Edge.the-variants.{Open, Collapsed}
+use Rattle.edges.specs.declared.Edges.{Edges}
+use Rattle.edges.specs.declared.Edges.the-variants.{Found}
+use Rattle.edges.specs.Edges.{singular}
+use Rattle.edges.specs.Compute as Edges
 
 -- ---- numbers and surfaces of the table
 
@@ -88,6 +95,9 @@ at x y z = record { x = x; y = y; z = z }
 abbrev mark : Vector3
 mark = at ¼· ½· ¾·
 
+abbrev to : ℕ → Float → Vector3 → Float → Edge
+to k value point side = Collapsed (record { k = k; value = value; point = point; side = side })
+
 -- ---- the rows
 
 pub data Case : Type 0 where
@@ -96,6 +106,7 @@ pub data Case : Type 0 where
   wraps : Float → Float → Case
   inverts : Surface → Vector3 → Hint → Float → Answer → Case
   derives : Surface → Float → Float → Vector3 → Placing → Case
+  collapses : Surface → Float → Edges → Case
   nearest : Float → Float → Float → Case
   roots : Float → Float → Case
 
@@ -107,6 +118,7 @@ Holds (wraps t r) = wrapped true 0· 1· t ≡ r
 Holds (inverts s m h t r) = inversionBy s (scaleOf s) m h t ≡ r
 -- a budget of 1
 Holds (derives s u v d r) = derived s u v d 1 ≡ r
+Holds (collapses s t r) = singular s t ≡ r
 -- the period 1
 Holds (nearest value hint r) = nearestTo value hint 1· ≡ r
 Holds (roots x r) = root x ≡ r
@@ -136,6 +148,20 @@ dot-free-holds : Holds dot-free
 unfolding compute
 dot-free-holds = refl
 
+abbrev pub square-edges : Case
+square-edges = collapses square ½· (Found (to 0 0· (at ½· 0· 0·) 1·) (to 0 1· (at ½· 1· 0·) (neg 1·)) (to 1 0· (at 0· ½· 0·) 1·) (to 1 1· (at 1· ½· 0·) (neg 1·)))
+
+square-edges-hold : Holds square-edges
+unfolding Edges.compute
+square-edges-hold = refl
+
+abbrev pub square-open : Case
+square-open = collapses square under-half (Found Open Open Open Open)
+
+square-open-holds : Holds square-open
+unfolding Edges.compute
+square-open-holds = refl
+
 abbrev pub light : List Case
 light =
     weights (least ∷ 1· ∷ []) (Scale 1·)
@@ -163,7 +189,7 @@ unfolding compute
 light-hold = (refl, (refl, (refl, (refl, (refl, (refl, (refl, (refl, (refl, (refl, (refl, (refl, (refl, (refl, (refl, (refl, (refl, (refl, tt))))))))))))))))))
 
 abbrev pub rows : List Case
-rows = square-free ∷ square-far ∷ dot-free ∷ light
+rows = square-free ∷ square-far ∷ dot-free ∷ square-edges ∷ square-open ∷ light
 
 pub table : All rows
-table = (square-free-holds, (square-far-holds, (dot-free-holds, light-hold)))
+table = (square-free-holds, (square-far-holds, (dot-free-holds, (square-edges-hold, (square-open-holds, light-hold)))))

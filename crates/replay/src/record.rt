@@ -8,6 +8,9 @@ ghost use Rattle.replay.specs.Records.{Decoded, Held};
 // A record has at most 4,096 words, its kind and its count among them.
 pub const MOST_WORDS: usize = 4094;
 
+// An input may go on for ever, and no program here does.
+pub const MOST_RECORDS: u64 = 65536;
+
 // What stands next in the input.
 pub enum Input {
     Record,

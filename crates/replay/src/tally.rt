@@ -23,6 +23,12 @@ pub struct Tally {
     pub unread: u64,
 }
 
+// A tally with one record more, and whether there may be another.
+pub struct Turn {
+    pub tally: Tally,
+    pub more: bool,
+}
+
 pub fn one_answer(agrees: bool) -> Outcome
     ensures { λ r. ⌜ r ≡ cond agrees (Outcome.Answers 1 0) (Outcome.Answers 0 1) ⌝ }
 {

@@ -1,10 +1,12 @@
 // Replays the stored answers of the source's surfaces, and prints for each call how many of them the port gives.
 use replay::Cursor;
 use replay::Input;
+use replay::MOST_RECORDS;
 use replay::MOST_WORDS;
 use replay::Outcome;
 use replay::Part;
 use replay::Tally;
+use replay::Turn;
 use replay::lend;
 use replay::one_answer;
 use surface::Checked;
@@ -15,9 +17,6 @@ use surface_records::lent_surface;
 ghost use mathlib.Core.Path.{_≡_};
 ghost use lib.ListN.{length};
 ghost use Rattle.replay.specs.Cursors.{Within};
-
-// An input may go on for ever, and no program here does.
-const MOST_RECORDS: u64 = 65536;
 
 // The calls, as a record's first word names them.
 const WRAP: u64 = 6;
@@ -33,26 +32,36 @@ fn main() {
 
 fn replay_all() -> Tally {
     let mut tally = Tally::new();
-    let mut words = [0u64; MOST_WORDS];
-    let mut numbers = [0.0f64; MOST_WORDS];
     for n in 0..MOST_RECORDS {
-        let next = replay::next_record(&mut words, &mut numbers);
-        let input = next.input;
-        let count = next.count;
-        match input {
-            Input::Record => {
-                let found = outcome(next.kind, &words[..count], &numbers[..count]);
-                tally = tally.with(next.kind, found);
-            }
-            Input::End => {
-                return tally;
-            }
-            Input::Short | Input::Long => {
-                return tally.with(0, Outcome::Unread);
-            }
+        let turn = one_record(tally);
+        tally = turn.tally;
+        if !turn.more {
+            return tally;
         }
     }
     tally
+}
+
+fn one_record(tally: Tally) -> Turn {
+    let mut words = [0u64; MOST_WORDS];
+    let mut numbers = [0.0f64; MOST_WORDS];
+    let next = replay::next_record(&mut words, &mut numbers);
+    let input = next.input;
+    let count = next.count;
+    match input {
+        Input::Record => Turn {
+            tally: tally.with(
+                next.kind,
+                outcome(next.kind, &words[..count], &numbers[..count]),
+            ),
+            more: true,
+        },
+        Input::End => Turn { tally, more: false },
+        Input::Short | Input::Long => Turn {
+            tally: tally.with(0, Outcome::Unread),
+            more: false,
+        },
+    }
 }
 
 fn outcome(kind: u64, words: &[u64], numbers: &[f64]) -> Outcome

@@ -1,16 +1,14 @@
--- `spline_vectors::replay_all` is safe and ends. The invariant: the buffers keep their lengths. The measure is how many more records may be read. Assumes nothing.
-use mathlib.Core.Path.{_≡_}
+-- `spline_vectors::replay_all` is safe and ends. The measure is how many more records may be read. Assumes nothing.
 use Prim.Native.Nat.{_-_, _≤_}
-use lib.ListN.{length}
 use borrow.Author.Needs.{needs}
 use Rattle.spline_vectors.proofs.replay_all.Statement.{statement}
 use Rattle.spline_vectors.proofs.replay_all.Tie as tie
 
 abbrev Inv-loop : tie.InvT-loop
-Inv-loop tally₀ words₀ numbers₀ n₀ tally words numbers n = (n ≤ 65536) × (length words ≡ 4094) × (length numbers ≡ 4094)
+Inv-loop tally₀ n₀ tally n = n ≤ 65536
 
 abbrev μ-loop : tie.MeasureT-loop
-μ-loop tally₀ words₀ numbers₀ n₀ tally words numbers n = 65536 - n
+μ-loop tally₀ n₀ tally n = 65536 - n
 
 new-requires : tie.Need-new-requires Inv-loop μ-loop
 new-requires c κs = search needs
@@ -18,47 +16,11 @@ new-requires c κs = search needs
 loop-holds : tie.Need-loop-holds Inv-loop μ-loop
 loop-holds c = search needs
 
-slice-aggregate-next-record : tie.Need-slice-aggregate-next-record Inv-loop μ-loop
-slice-aggregate-next-record c = search needs
-
-slice-aggregate-next-record-2 : tie.Need-slice-aggregate-next-record-2 Inv-loop μ-loop
-slice-aggregate-next-record-2 c = search needs
-
-next-record-requires : tie.Need-next-record-requires Inv-loop μ-loop
-next-record-requires c κs = search needs
-
-enum-told : tie.Need-enum-told Inv-loop μ-loop
-enum-told c = search needs
-
-array-share-prefix-words : tie.Need-array-share-prefix-words Inv-loop μ-loop
-array-share-prefix-words c = search needs
-
-slice-aggregate-outcome : tie.Need-slice-aggregate-outcome Inv-loop μ-loop
-slice-aggregate-outcome c = search needs
-
-array-share-prefix-numbers : tie.Need-array-share-prefix-numbers Inv-loop μ-loop
-array-share-prefix-numbers c = search needs
-
-slice-aggregate-outcome-2 : tie.Need-slice-aggregate-outcome-2 Inv-loop μ-loop
-slice-aggregate-outcome-2 c = search needs
-
-outcome-requires : tie.Need-outcome-requires Inv-loop μ-loop
-outcome-requires c κs = search needs
-
-with-requires : tie.Need-with-requires Inv-loop μ-loop
-with-requires c κs = search needs
-
-enum-told-2 : tie.Need-enum-told-2 Inv-loop μ-loop
-enum-told-2 c = search needs
+one-record-requires : tie.Need-one-record-requires Inv-loop μ-loop
+one-record-requires c κs = search needs
 
 returns : tie.Need-returns Inv-loop μ-loop
 returns c = search needs
-
-with-requires-2 : tie.Need-with-requires-2 Inv-loop μ-loop
-with-requires-2 c κs = search needs
-
-returns-2 : tie.Need-returns-2 Inv-loop μ-loop
-returns-2 c = search needs
 
 add-n : tie.Need-add-n Inv-loop μ-loop
 add-n c = search needs
@@ -69,8 +31,8 @@ loop-less c = search needs
 loop-again : tie.Need-loop-again Inv-loop μ-loop
 loop-again c = search needs
 
-returns-3 : tie.Need-returns-3 Inv-loop μ-loop
-returns-3 c = search needs
+returns-2 : tie.Need-returns-2 Inv-loop μ-loop
+returns-2 c = search needs
 
 pub replay-all-spec : {M : Type 1} → statement M
 replay-all-spec =
@@ -80,21 +42,9 @@ replay-all-spec =
     μ-loop
     new-requires
     loop-holds
-    slice-aggregate-next-record
-    slice-aggregate-next-record-2
-    next-record-requires
-    enum-told
-    array-share-prefix-words
-    slice-aggregate-outcome
-    array-share-prefix-numbers
-    slice-aggregate-outcome-2
-    outcome-requires
-    with-requires
-    enum-told-2
+    one-record-requires
     returns
-    with-requires-2
-    returns-2
     add-n
     loop-less
     loop-again
-    returns-3)
+    returns-2)

@@ -1,0 +1,4 @@
+pub mod Edges
+pub mod EdgeLaws
+pub mod Compute
+pub mod Examples
