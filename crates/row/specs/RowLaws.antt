@@ -270,7 +270,7 @@ module _ (budget : ℕ) (hint : Hint) where
     checked-numbers (Check.Refusal n) e = tt
     checked-numbers (Check.Scale m) e = searched-numbers m (soundSearch mark hint tolerance Free Free) e
 
-    placed-numbers : Places Numbers (placed s mark hint tolerance Free Free budget)
+    pub placed-numbers : Places Numbers (placed s mark hint tolerance Free Free budget)
     unfolding placed
     placed-numbers = checked-numbers (checked s) refl
 

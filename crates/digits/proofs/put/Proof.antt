@@ -1,0 +1,79 @@
+-- `digits::put` meets its contract. The invariant: the whole text put is what is left of it put from here. Assumes nothing.
+use mathlib.Core.Path.{_≡_}
+use Prim.Native.Nat.{_+_, _-_, _≤_}
+use native.Mathlib.Omega.{arith}
+use lib.ListN.{length, drop}
+use Rattle.digits.specs.Text.{written}
+use Rattle.digits.proofs.Steps.{copy-begin, copy-go, copy-over}
+use borrow.Author.Needs.{needs}
+use Rattle.digits.proofs.put.Statement.{statement}
+use Rattle.digits.proofs.put.Tie as tie
+
+abbrev Inv-loop : tie.InvT-loop
+Inv-loop out₀ at text i₀ i-end out i =
+    (i ≤ length text) × (i-end ≡ length text) × (length out ≡ length out₀) × (written at text out₀ ≡ written (at + i) (drop i text) out)
+
+abbrev μ-loop : tie.MeasureT-loop
+μ-loop out₀ at text i₀ i-end out i = length text - i
+
+loop-holds : tie.Need-loop-holds Inv-loop μ-loop
+loop-holds c = (search needs, search needs, search needs, copy-begin _ _ _)
+
+shared-slice-read-out : tie.Need-shared-slice-read-out Inv-loop μ-loop
+shared-slice-read-out c = search needs
+
+add-out : tie.Need-add-out Inv-loop μ-loop
+add-out c = search needs
+
+slice-write-out : tie.Need-slice-write-out Inv-loop μ-loop
+slice-write-out c = search needs
+
+add-i : tie.Need-add-i Inv-loop μ-loop
+add-i c = search needs
+
+loop-less : tie.Need-loop-less Inv-loop μ-loop
+loop-less c = search needs
+
+loop-again : tie.Need-loop-again Inv-loop μ-loop
+loop-again c =
+    let l = c .before .before .loop in
+    let a = c .before .before .before .args in (
+      search needs,
+      search needs,
+      search needs,
+      copy-go (a .at) (a .text .now) (a .out .now) (l .i) (l .out) (l .inv .3) (omega arith) (omega arith),
+    )
+
+add-result : tie.Need-add-result Inv-loop μ-loop
+add-result c = search needs
+
+same-length : tie.Need-same-length Inv-loop μ-loop
+same-length c = search needs
+
+returns : tie.Need-returns Inv-loop μ-loop
+returns c =
+    let l = c .before .loop in
+    let a = c .before .before .args in
+    record {
+      whole = copy-over (a .at) (a .text .now) (a .out .now) (l .i) (l .out) (l .inv .3) (omega arith);
+      size = search needs;
+      next-is = search needs;
+      inside = search needs;
+    }
+
+pub put-spec : {M : Type 1} → statement M
+put-spec =
+    tie.close
+    (tie.spec
+    Inv-loop
+    μ-loop
+    loop-holds
+    shared-slice-read-out
+    add-out
+    slice-write-out
+    add-i
+    loop-less
+    loop-again
+    add-result
+    same-length
+    returns)

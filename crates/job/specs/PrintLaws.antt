@@ -1,0 +1,27 @@
+-- What every printout begins with, and what a malformed file prints. Assumes nothing.
+use mathlib.Core.Path.{_≡_, ap}
+use mathlib.Core.List.{List, _++_}
+use Prim.Native.Nat.{ℕ, _<_}
+use lib.ListN.{length}
+use Rattle.digits.specs.Text.{ascii, digit, digits, placesIn, decimal}
+use Rattle.inversion.specs.declared.Hint.the-variants.{Nothing}
+use Rattle.inverter.specs.declared.Period.the-variants.{Free}
+use Rattle.row.specs.Row.{rowed}
+use Rattle.job_lines.specs.Lines.{marksLine, refusedLine}
+use Rattle.job_format.specs.Format.{malformed, read, Job, parse}
+use Rattle.job_format.specs.FormatLaws.{too-long}
+use Rattle.job.specs.Printout.{rowLines, jobLines, printed, printout}
+
+-- "A malformed file prints only `refused 12 at 0`"
+pub malformed-prints : (bytes : List ℕ) → parse bytes ≡ malformed → printout bytes ≡ ascii "refused 12 at 0\n"
+unfolding printout printed refusedLine ascii digit digits placesIn decimal
+malformed-prints bytes e = ap printed e
+
+pub too-long-prints : (bytes : List ℕ) → 32768 < length bytes → printout bytes ≡ ascii "refused 12 at 0\n"
+too-long-prints bytes h = malformed-prints bytes (too-long bytes h)
+
+-- "Line 1: marks in the file, decimal", then the row's lines
+pub first-line-counts : (bytes : List ℕ) (job : Job) (rest : List ℕ) → parse bytes ≡ read job rest
+    → printout bytes ≡ marksLine (length (job .marks)) ++ rowLines (rowed (job .surface) (job .marks) Nothing (job .terms .tolerance) Free Free (job .terms .budget))
+unfolding printout printed jobLines
+first-line-counts bytes job rest e = ap printed e

@@ -1,0 +1,36 @@
+-- What a job file prints, byte for byte. Definitions only.
+use mathlib.Core.List.{List, [], _∷_, _++_}
+use Prim.Native.Nat.{ℕ}
+use lib.ListN.{length}
+use Rattle.inversion.specs.declared.Hint.the-variants.{Nothing}
+use Rattle.inverter.specs.declared.Period.the-variants.{Free}
+use Rattle.row.specs.declared.Ended.{Ended}
+use Rattle.row.specs.declared.Ended.the-variants as Ended
+use Rattle.row.specs.Row.{Placed, Rowed, rowed}
+use Rattle.job_lines.specs.Lines.{marksLine, pairLine, refusedLine}
+use Rattle.job_format.specs.Format.{Read, malformed, read, Job, parse}
+
+unfoldable pub pairLines : List Placed → List ℕ
+pairLines [] = []
+pairLines (p ∷ ps) = pairLine (p .u) (p .v) (p .left) ++ pairLines ps
+
+-- a refusal is the last line
+unfoldable pub lastLine : Ended → List ℕ
+lastLine (Ended.Placed left) = []
+lastLine (Ended.Refusal number index left) = refusedLine number index
+
+unfoldable pub rowLines : Rowed → List ℕ
+rowLines r = pairLines (r .pairs) ++ lastLine (r .ended)
+
+-- with no first hint and no periods
+unfoldable pub jobLines : Job → List ℕ
+jobLines job =
+    marksLine (length (job .marks))
+    ++ rowLines (rowed (job .surface) (job .marks) Nothing (job .terms .tolerance) Free Free (job .terms .budget))
+
+unfoldable pub printed : Read Job → List ℕ
+printed malformed = refusedLine 12 0
+printed (read job rest) = jobLines job
+
+unfoldable pub printout : List ℕ → List ℕ
+printout bytes = printed (parse bytes)

@@ -1,0 +1,111 @@
+// The marks of a job, one after another, on a surface that passed its checks.
+use inversion::Hint;
+use inverter::Period;
+use inverter::Placing;
+use inverter::invert_checked;
+use job_format::mark_at;
+use job_lines::put_pair;
+use job_lines::put_refusal;
+use surface::Shape;
+use vector3::Vector3;
+ghost use mathlib.Core.Path.{_≡_};
+ghost use Prim.Native.Nat.{_+_, _*_, _≤_};
+ghost use lib.ListN.{length};
+ghost use Rattle.digits.specs.Text.{Put};
+ghost use Rattle.surface.specs.declared.Checked.the-variants.{Scale};
+ghost use Rattle.surface.specs.Surface.{surface, checked};
+ghost use Rattle.inversion.specs.declared.Hint.the-variants.{Nothing};
+ghost use Rattle.inverter.specs.declared.Period.the-variants.{Free};
+ghost use Rattle.inverter.specs.Inverter.{placed};
+ghost use Rattle.row.specs.Row.{inTurn};
+ghost use Rattle.job_format.specs.Offsets.{marksAt};
+ghost use Rattle.job.specs.Printout.{rowLines};
+ghost use Rattle.job.specs.Turns.{placingLine, Printable};
+
+pub fn print_marks(
+    shape: Shape,
+    ku: &[f64],
+    kv: &[f64],
+    controls: &[f64],
+    weights: &[f64],
+    scale: f64,
+    tolerance: f64,
+    bytes: &[u8],
+    first: usize,
+    marks: usize,
+    budget: u64,
+    out: &mut [u8],
+    from: usize,
+) -> usize
+    requires { ⌜ (checked (surface shape (now ku) (now kv) (now controls) (now weights)) ≡ Scale scale) × (first + 26 * marks ≤ length (now bytes)) × (from + 55 * (marks + 1) ≤ length (now out)) ⌝ }
+    ensures { λ r. ⌜ Put from (rowLines (inTurn (surface shape (now (ku .entry)) (now (kv .entry)) (now (controls .entry)) (now (weights .entry))) tolerance Free Free 0 (marksAt marks (now (bytes .entry)) first) Nothing budget)) (now (out .entry)) (now (out .exit)) r ⌝ }
+{
+    let mut hint = Hint::Nothing;
+    let mut left = budget;
+    let mut at = from;
+    for i in 0..marks {
+        let mark = mark_at(bytes, first + 26 * i);
+        let placing = place(
+            shape,
+            ku,
+            kv,
+            controls,
+            weights,
+            scale,
+            mark,
+            hint,
+            tolerance,
+            left,
+        );
+        at = put_placing(out, at, i, left, placing);
+        let Placing::Pair(u, v, taken) = placing else {
+            return at;
+        };
+        hint = Hint::At(u, v);
+        left -= taken;
+    }
+    at
+}
+
+fn place(
+    shape: Shape,
+    ku: &[f64],
+    kv: &[f64],
+    controls: &[f64],
+    weights: &[f64],
+    scale: f64,
+    mark: Vector3,
+    hint: Hint,
+    tolerance: f64,
+    budget: u64,
+) -> Placing
+    requires { ⌜ checked (surface shape (now ku) (now kv) (now controls) (now weights)) ≡ Scale scale ⌝ }
+    ensures { λ r. ⌜ r ≡ placed (surface shape (now (ku .entry)) (now (kv .entry)) (now (controls .entry)) (now (weights .entry))) mark hint tolerance Free Free budget ⌝ }
+    ensures { λ r. ⌜ Printable budget r ⌝ }
+{
+    invert_checked(
+        shape,
+        ku,
+        kv,
+        controls,
+        weights,
+        scale,
+        mark,
+        hint,
+        tolerance,
+        Period::Free,
+        Period::Free,
+        budget,
+    )
+}
+
+fn put_placing(out: &mut [u8], at: usize, i: usize, budget: u64, placing: Placing) -> usize
+    requires { ⌜ (at + 55 ≤ length (now out)) × Printable budget placing ⌝ }
+    ensures { λ r. ⌜ Put at (placingLine i budget placing) (now (out .entry)) (now (out .exit)) r ⌝ }
+    ensures { λ r. ⌜ r ≤ at + 55 ⌝ }
+{
+    match placing {
+        Placing::Pair(u, v, taken) => put_pair(out, at, u, v, budget - taken),
+        Placing::Refusal(number, _) => put_refusal(out, at, number, i),
+    }
+}

@@ -1,0 +1,149 @@
+// A job whose numbers are decoded.
+use crate::marks::print_marks;
+use inversion::Hint;
+use inverter::Period;
+use inverter::sound_terms;
+use job_format::controls;
+use job_format::knots;
+use job_format::number_at;
+use job_lines::put_marks;
+use job_lines::put_refusal;
+use surface::Checked;
+use surface::Shape;
+use surface::check;
+ghost use mathlib.Core.Path.{_≡_};
+ghost use Prim.Native.Nat.{_+_, _*_, _≤_};
+ghost use lib.ListN.{length, take};
+ghost use Rattle.digits.specs.Text.{Put};
+ghost use Rattle.surface.specs.declared.Checked.the-variants.{Scale};
+ghost use Rattle.surface.specs.Surface.{surface, checked};
+ghost use Rattle.inversion.specs.declared.Hint.the-variants.{Nothing};
+ghost use Rattle.inverter.specs.declared.Period.the-variants.{Free};
+ghost use Rattle.row.specs.Row.{rowed};
+ghost use Rattle.job_format.specs.Offsets.{Fits, count, floatsAt, marksAt, jobAt};
+ghost use Rattle.job.specs.Printout.{rowLines, jobLines};
+
+// The surface's numbers are at the front of those lent.
+pub fn print_decoded(
+    bytes: &[u8],
+    shape: Shape,
+    marks: usize,
+    numbers: &[f64; 4096],
+    out: &mut [u8],
+) -> usize
+    requires { ⌜ Fits (length (now bytes)) shape marks × (take (count shape) (now numbers) ≡ floatsAt (count shape) (now bytes) 9) × (length (now out) ≡ 69632) ⌝ }
+    ensures { λ r. ⌜ Put 0 (jobLines (jobAt shape marks (now (bytes .entry)))) (now (out .entry)) (now (out .exit)) r ⌝ }
+    ensures { λ r. ⌜ r ≤ 69632 ⌝ }
+{
+    print_numbers(bytes, shape, marks, numbers, out)
+}
+
+fn print_numbers(bytes: &[u8], shape: Shape, marks: usize, numbers: &[f64], out: &mut [u8]) -> usize
+    requires { ⌜ Fits (length (now bytes)) shape marks × (length (now numbers) ≡ 4096) × (take (count shape) (now numbers) ≡ floatsAt (count shape) (now bytes) 9) × (length (now out) ≡ 69632) ⌝ }
+    ensures { λ r. ⌜ Put 0 (jobLines (jobAt shape marks (now (bytes .entry)))) (now (out .entry)) (now (out .exit)) r ⌝ }
+    ensures { λ r. ⌜ r ≤ 69632 ⌝ }
+{
+    let u = shape.u;
+    let v = shape.v;
+    let total = controls(shape);
+    let a = knots(u);
+    let b = a + knots(v);
+    let c = b + 3 * total;
+    let d = c + total;
+    let at = 9 + 8 * d;
+    let tolerance = number_at(bytes, at + 2);
+    let budget = answers::word_at(bytes, at + 10);
+    let from = put_marks(out, 0, marks);
+    print_row(
+        shape,
+        &numbers[..a],
+        &numbers[a..b],
+        &numbers[b..c],
+        &numbers[c..d],
+        tolerance,
+        bytes,
+        at + 18,
+        marks,
+        budget,
+        out,
+        from,
+    )
+}
+
+// The lines after the first. The marks' records start at index `first`.
+fn print_row(
+    shape: Shape,
+    ku: &[f64],
+    kv: &[f64],
+    controls: &[f64],
+    weights: &[f64],
+    tolerance: f64,
+    bytes: &[u8],
+    first: usize,
+    marks: usize,
+    budget: u64,
+    out: &mut [u8],
+    from: usize,
+) -> usize
+    requires { ⌜ (first + 26 * marks ≤ length (now bytes)) × (from + 55 * (marks + 1) ≤ length (now out)) ⌝ }
+    ensures { λ r. ⌜ Put from (rowLines (rowed (surface shape (now (ku .entry)) (now (kv .entry)) (now (controls .entry)) (now (weights .entry))) (marksAt marks (now (bytes .entry)) first) Nothing tolerance Free Free budget)) (now (out .entry)) (now (out .exit)) r ⌝ }
+{
+    let checked = check(shape, ku, kv, controls, weights);
+    match checked {
+        Checked::Refusal(n) => put_refusal(out, from, n, 0),
+        Checked::Scale(scale) => print_checked(
+            shape,
+            ku,
+            kv,
+            controls,
+            weights,
+            scale,
+            tolerance,
+            bytes,
+            first,
+            marks,
+            budget,
+            out,
+            from,
+        ),
+    }
+}
+
+// On a surface that passed its checks.
+fn print_checked(
+    shape: Shape,
+    ku: &[f64],
+    kv: &[f64],
+    controls: &[f64],
+    weights: &[f64],
+    scale: f64,
+    tolerance: f64,
+    bytes: &[u8],
+    first: usize,
+    marks: usize,
+    budget: u64,
+    out: &mut [u8],
+    from: usize,
+) -> usize
+    requires { ⌜ (checked (surface shape (now ku) (now kv) (now controls) (now weights)) ≡ Scale scale) × (first + 26 * marks ≤ length (now bytes)) × (from + 55 * (marks + 1) ≤ length (now out)) ⌝ }
+    ensures { λ r. ⌜ Put from (rowLines (rowed (surface shape (now (ku .entry)) (now (kv .entry)) (now (controls .entry)) (now (weights .entry))) (marksAt marks (now (bytes .entry)) first) Nothing tolerance Free Free budget)) (now (out .entry)) (now (out .exit)) r ⌝ }
+{
+    if !sound_terms(Hint::Nothing, tolerance, Period::Free, Period::Free) {
+        return put_refusal(out, from, 7, 0);
+    }
+    print_marks(
+        shape,
+        ku,
+        kv,
+        controls,
+        weights,
+        scale,
+        tolerance,
+        bytes,
+        first,
+        marks,
+        budget,
+        out,
+        from,
+    )
+}

@@ -1,0 +1,93 @@
+-- `job_format::after_header` meets its contract: each test that fails is a piece that is malformed. Assumes nothing.
+use mathlib.Core.Path.{refl, sym, _∙_}
+use native.Mathlib.Omega.{arith}
+use borrow.Author.Tests.{not-true, not-false}
+use Rattle.job_format.specs.Offsets.{told}
+use Rattle.job_format.proofs.Steps.{cut-off, no-terms, bytes-left, no-mark, well-formed}
+use borrow.Author.Needs.{needs}
+use Rattle.job_format.proofs.after_header.Statement.{statement}
+use Rattle.job_format.proofs.after_header.Tie as tie
+
+numbers-end-requires : tie.Need-numbers-end-requires
+numbers-end-requires c κs = search needs
+
+add-if1 : tie.Need-add-if1
+add-if1 c = search needs
+
+returns : tie.Need-returns
+unfolding told
+returns c =
+    let n = c .before in
+    let a = n .before .before .args in
+    (cut-off (a .bytes .now) (a .shape) (n .numbers-end .result) (n .numbers-end .ensures .0) (n .before .before .pre .0) (c .if1 .taken), tt)
+
+is-mark-requires : tie.Need-is-mark-requires
+is-mark-requires c κs = search needs
+
+returns-2 : tie.Need-returns-2
+unfolding told
+returns-2 c =
+    let m = c .before in
+    let n = m .before .before in
+    let a = n .before .before .args in
+    (no-terms (a .bytes .now) (a .shape) (n .numbers-end .result) (n .numbers-end .ensures .0) (n .before .before .pre .0) (m .before .if1 .left) (sym (m .is-mark .ensures) ∙ not-true _ (c .if2 .taken)), tt)
+
+add-left : tie.Need-add-left
+add-left c = search needs
+
+sub-left : tie.Need-sub-left
+sub-left c = search needs
+
+returns-3 : tie.Need-returns-3
+unfolding told
+returns-3 c =
+    let t = c .before in
+    let m = t .before in
+    let n = m .before .before in
+    let a = n .before .before .args in
+    (bytes-left (a .bytes .now) (a .shape) (n .numbers-end .result) (n .numbers-end .ensures .0) (n .before .before .pre .0) (m .before .if1 .left) (sym (m .is-mark .ensures) ∙ not-false _ (t .if2 .left)) (c .if3 .taken), tt)
+
+add-all-marks : tie.Need-add-all-marks
+add-all-marks c = search needs
+
+all-marks-requires : tie.Need-all-marks-requires
+all-marks-requires c κs = search needs
+
+returns-4 : tie.Need-returns-4
+unfolding told
+returns-4 c =
+    let l = c .before in
+    let t = l .before .before in
+    let m = t .before in
+    let n = m .before .before in
+    let a = n .before .before .args in
+    (no-mark (a .bytes .now) (a .shape) (n .numbers-end .result) (n .numbers-end .ensures .0) (n .before .before .pre .0) (m .before .if1 .left) (sym (m .is-mark .ensures) ∙ not-false _ (t .if2 .left)) _ refl (l .before .if3 .left) (sym (l .all-marks .ensures) ∙ not-true _ (c .if4 .taken)), tt)
+
+returns-5 : tie.Need-returns-5
+unfolding told
+returns-5 c =
+    let l = c .before in
+    let t = l .before .before in
+    let m = t .before in
+    let n = m .before .before in
+    let a = n .before .before .args in (
+      well-formed (a .bytes .now) (a .shape) (n .numbers-end .result) (n .numbers-end .ensures .0) (n .before .before .pre .0) (m .before .if1 .left) (sym (m .is-mark .ensures) ∙ not-false _ (t .if2 .left)) _ refl (l .before .if3 .left) (sym (l .all-marks .ensures) ∙ not-false _ (c .if4 .left)),
+      record { few = n .before .before .pre .1; whole = omega (arith, n .numbers-end .ensures .0, l .before .if3 .left) },
+    )
+
+pub after-header-spec : {M : Type 1} → statement M
+after-header-spec =
+    tie.close
+    (tie.spec
+    numbers-end-requires
+    add-if1
+    returns
+    is-mark-requires
+    returns-2
+    add-left
+    sub-left
+    returns-3
+    add-all-marks
+    all-marks-requires
+    returns-4
+    returns-5)

@@ -1,0 +1,22 @@
+-- `job_format::is_mark` meets its contract. Assumes nothing.
+use Rattle.job_format.specs.Offsets.{isMark}
+use borrow.Author.Needs.{needs}
+use Rattle.job_format.proofs.is_mark.Statement.{statement}
+use Rattle.job_format.proofs.is_mark.Tie as tie
+
+shared-slice-read-result : tie.Need-shared-slice-read-result
+shared-slice-read-result c = search needs
+
+add-result : tie.Need-add-result
+add-result c = search needs
+
+shared-slice-read-result-2 : tie.Need-shared-slice-read-result-2
+shared-slice-read-result-2 c = search needs
+
+returns : tie.Need-returns
+unfolding isMark
+returns c = search needs
+
+pub is-mark-spec : {M : Type 1} → statement M
+is-mark-spec =
+    tie.close (tie.spec shared-slice-read-result add-result shared-slice-read-result-2 returns)

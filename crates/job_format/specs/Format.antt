@@ -1,0 +1,131 @@
+-- A job file as document 01 lays it out, read from its first byte to its last. Each piece takes its bytes from the front of those that are left. Definitions only.
+use mathlib.Core.Bool.{cond}
+use mathlib.Core.List.{List, [], _∷_}
+use Prim.Native.Nat.{ℕ, zero, suc, _+_, _*_, _/_, _%_}
+use lib.Dec.{leb, ltb, eqb}
+use lib.ListN.{length, drop}
+use lib.Ieee.{Float, binary64, ofBits}
+use Rattle.answers.specs.Words.{littleEndian}
+use Rattle.digits.specs.Text.{ascii}
+use Rattle.vector3.specs.declared.Vector3.{Vector3}
+use Rattle.surface.specs.declared.Counts.{Counts}
+use Rattle.surface.specs.declared.Shape.{Shape}
+use Rattle.surface.specs.Surface.{Surface, surface}
+
+-- what a piece holds, with the bytes after it
+pub data Read (A : Type 0) : Type 0 where
+  malformed : Read A
+  read : A → List ℕ → Read A
+
+infixr 10 _then_
+-- a piece and what follows it
+unfoldable pub _then_ : {A B : Type 0} → Read A → (A → List ℕ → Read B) → Read B
+malformed then f = malformed
+(read a rest) then f = f a rest
+
+-- ---- the pieces
+
+-- a record's mark
+unfoldable pub mark : List ℕ → List ℕ → Read (Unit {0})
+mark [] bytes = read tt bytes
+mark (m ∷ ms) [] = malformed
+mark (m ∷ ms) (b ∷ bytes) = cond (eqb b m) (mark ms bytes) malformed
+
+-- a number of k bytes, the lowest first
+unfoldable pub number : ℕ → List ℕ → Read ℕ
+number k bytes = cond (leb k (length bytes)) (read (littleEndian k bytes 0) (drop k bytes)) malformed
+
+unfoldable pub float : List ℕ → Read Float
+float bytes = number 8 bytes then λ w rest. read (ofBits binary64 w) rest
+
+unfoldable pub floats : ℕ → List ℕ → Read (List Float)
+floats zero bytes = read [] bytes
+floats (suc n) bytes = float bytes then λ x rest. floats n rest then λ xs after. read (x ∷ xs) after
+
+-- 1 for u periodic, 2 for v, sum at most 3
+unfoldable pub flags : List ℕ → Read ℕ
+flags bytes = number 1 bytes then λ f rest. cond (leb f 3) (read f rest) malformed
+
+-- ---- the records
+
+abbrev pub shaped : ℕ → ℕ → ℕ → ℕ → ℕ → Shape
+shaped du dv nu nv f =
+    record { u = record { degree = du; controls = nu; periodic = eqb (f % 2) 1 }; v = record { degree = dv; controls = nv; periodic = ltb 1 f } }
+
+-- what stands before the surface's numbers
+unfoldable pub header : List ℕ → Read Shape
+header bytes =
+    mark (ascii "SF") bytes then λ m rest.
+    number 1 rest then λ du rest.
+    number 1 rest then λ dv rest.
+    number 2 rest then λ nu rest.
+    number 2 rest then λ nv rest.
+    flags rest then λ f rest.
+    read (shaped du dv nu nv f) rest
+
+abbrev pub knots : Counts → ℕ
+knots n = n .controls + n .degree + 1
+
+abbrev pub controls : Shape → ℕ
+controls shape = shape .u .controls * shape .v .controls
+
+-- three coordinates a control
+unfoldable pub surfaceNumbers : Shape → List ℕ → Read Surface
+surfaceNumbers shape bytes =
+    floats (knots (shape .u)) bytes then λ ku rest.
+    floats (knots (shape .v)) rest then λ kv rest.
+    floats (3 * controls shape) rest then λ cs rest.
+    floats (controls shape) rest then λ ws rest.
+    read (surface shape ku kv cs ws) rest
+
+unfoldable pub surfaceRecord : List ℕ → Read Surface
+surfaceRecord bytes = header bytes then surfaceNumbers
+
+pub record Terms : Type 0 where
+  pub tolerance : Float
+  pub budget : ℕ
+
+unfoldable pub termsRecord : List ℕ → Read Terms
+termsRecord bytes =
+    mark (ascii "TL") bytes then λ m rest.
+    float rest then λ x rest.
+    number 8 rest then λ n rest.
+    read (record { tolerance = x; budget = n }) rest
+
+unfoldable pub markRecord : List ℕ → Read Vector3
+markRecord bytes =
+    mark (ascii "MK") bytes then λ m rest.
+    float rest then λ x rest.
+    float rest then λ y rest.
+    float rest then λ z rest.
+    read (record { x = x; y = y; z = z }) rest
+
+unfoldable pub markRecords : ℕ → List ℕ → Read (List Vector3)
+markRecords zero bytes = read [] bytes
+markRecords (suc n) bytes = markRecord bytes then λ p rest. markRecords n rest then λ ps after. read (p ∷ ps) after
+
+-- ---- the file
+
+pub record Job : Type 0 where
+  pub surface : Surface
+  pub terms : Terms
+  pub marks : List Vector3
+
+-- no bytes left over
+unfoldable pub ended : {A : Type 0} → A → List ℕ → Read A
+ended a [] = read a []
+ended a (b ∷ bytes) = malformed
+
+-- as many marks as there is room for, 26 bytes each
+unfoldable pub toTheEnd : List ℕ → Read (List Vector3)
+toTheEnd bytes = markRecords (length bytes / 26) bytes then ended
+
+unfoldable pub records : List ℕ → Read Job
+records bytes =
+    surfaceRecord bytes then λ s rest.
+    termsRecord rest then λ t rest.
+    toTheEnd rest then λ ps rest.
+    read (record { surface = s; terms = t; marks = ps }) rest
+
+unfoldable pub parse : List ℕ → Read Job
+parse bytes = cond (leb (length bytes) 32768) (records bytes) malformed

@@ -1,0 +1,170 @@
+// The job file: where its records stand, and its numbers as floats.
+use surface::Counts;
+use surface::Shape;
+use vector3::Vector3;
+ghost use mathlib.Core.Path.{_≡_};
+ghost use mathlib.Core.List.{_++_};
+ghost use Prim.Native.Nat.{_+_, _*_, _^_, _≤_, _<_};
+ghost use lib.ListN.{length, drop};
+ghost use Rattle.answers.specs.Words.{littleEndian};
+ghost use Rattle.job_format.specs.Format.{parse, knots, controls};
+ghost use Rattle.job_format.specs.Offsets.{Small, Laid, told, fromNumbers, isMark, allMarks, shapeAt, after, floatAt, floatsAt, markAt};
+
+pub const MOST_BYTES: usize = 32_768;
+
+pub enum Layout {
+    Malformed,
+    // The surface's shape, and how many marks there are.
+    WellFormed(Shape, usize),
+}
+
+pub fn layout_of(bytes: &[u8]) -> Layout
+    ensures { λ r. ⌜ parse (now (bytes .entry)) ≡ told r (now (bytes .entry)) ⌝ }
+    ensures { λ r. ⌜ Laid (length (now (bytes .entry))) r ⌝ }
+{
+    if MOST_BYTES < bytes.len() {
+        return Layout::Malformed;
+    }
+    if bytes.len() < 9 {
+        return Layout::Malformed;
+    }
+    if !is_mark(bytes, 0, b'S', b'F') {
+        return Layout::Malformed;
+    }
+    if 3 < bytes[8] {
+        return Layout::Malformed;
+    }
+    after_header(bytes, shape_of(bytes))
+}
+
+// The floats from index `at` on, into the front of the numbers.
+pub fn decode(bytes: &[u8], at: usize, count: usize, numbers: &mut [f64])
+    requires { ⌜ (at + 8 * count ≤ length (now bytes)) × (count ≤ length (now numbers)) ⌝ }
+    ensures { λ r. ⌜ now (numbers .exit) ≡ floatsAt count (now (bytes .entry)) at ++ drop count (now (numbers .entry)) ⌝ }
+{
+    for i in 0..count {
+        numbers[i] = number_at(bytes, at + 8 * i);
+    }
+}
+
+pub fn number_at(bytes: &[u8], at: usize) -> f64
+    requires { ⌜ at + 8 ≤ length (now bytes) ⌝ }
+    ensures { λ r. ⌜ r ≡ floatAt (now (bytes .entry)) at ⌝ }
+{
+    answers::float(answers::word_at(bytes, at))
+}
+
+// The mark whose record starts at index `at`.
+pub fn mark_at(bytes: &[u8], at: usize) -> Vector3
+    requires { ⌜ at + 26 ≤ length (now bytes) ⌝ }
+    ensures { λ r. ⌜ r ≡ markAt (now (bytes .entry)) at ⌝ }
+{
+    Vector3 {
+        x: number_at(bytes, at + 2),
+        y: number_at(bytes, at + 10),
+        z: number_at(bytes, at + 18),
+    }
+}
+
+// Of one axis.
+pub fn knots(n: Counts) -> usize
+    requires { ⌜ n .controls + n .degree < 2 ^ 20 ⌝ }
+    ensures { λ r. ⌜ (r ≡ knots n) × (r ≤ 2 ^ 20) ⌝ }
+{
+    n.controls + n.degree + 1
+}
+
+pub fn controls(shape: Shape) -> usize
+    requires { ⌜ (shape .u .controls < 65536) × (shape .v .controls < 65536) ⌝ }
+    ensures { λ r. ⌜ (r ≡ controls shape) × (r < 2 ^ 32) ⌝ }
+{
+    let nu = shape.u.controls;
+    let nv = shape.v.controls;
+    nu * nv
+}
+
+// Where the surface's numbers end.
+fn numbers_end(shape: Shape) -> usize
+    requires { ⌜ Small shape ⌝ }
+    ensures { λ r. ⌜ (r ≡ after shape) × (r < 2 ^ 40) ⌝ }
+{
+    let u = shape.u;
+    let v = shape.v;
+    9 + 8 * (knots(u) + knots(v) + 4 * controls(shape))
+}
+
+fn after_header(bytes: &[u8], shape: Shape) -> Layout
+    requires { ⌜ (9 ≤ length (now bytes)) × (length (now bytes) ≤ 32768) × Small shape ⌝ }
+    ensures { λ r. ⌜ fromNumbers shape (drop 9 (now (bytes .entry))) ≡ told r (now (bytes .entry)) ⌝ }
+    ensures { λ r. ⌜ Laid (length (now (bytes .entry))) r ⌝ }
+{
+    let at = numbers_end(shape);
+    if bytes.len() < at + 18 {
+        return Layout::Malformed;
+    }
+    if !is_mark(bytes, at, b'T', b'L') {
+        return Layout::Malformed;
+    }
+    let left = bytes.len() - (at + 18);
+    if left % 26 != 0 {
+        return Layout::Malformed;
+    }
+    let marks = left / 26;
+    if !all_marks(bytes, at + 18, marks) {
+        return Layout::Malformed;
+    }
+    Layout::WellFormed(shape, marks)
+}
+
+fn shape_of(bytes: &[u8]) -> Shape
+    requires { ⌜ 9 ≤ length (now bytes) ⌝ }
+    ensures { λ r. ⌜ (r ≡ shapeAt (now (bytes .entry))) × Small r ⌝ }
+{
+    let flags = bytes[8];
+    Shape {
+        u: Counts {
+            degree: wide(bytes[2]),
+            controls: pair_at(bytes, 4),
+            periodic: flags % 2 == 1,
+        },
+        v: Counts {
+            degree: wide(bytes[3]),
+            controls: pair_at(bytes, 6),
+            periodic: 1 < flags,
+        },
+    }
+}
+
+// Whether `marks` records of a mark follow each other from index `at` on.
+fn all_marks(bytes: &[u8], at: usize, marks: usize) -> bool
+    requires { ⌜ at + 26 * marks ≤ length (now bytes) ⌝ }
+    ensures { λ r. ⌜ r ≡ allMarks marks (now (bytes .entry)) at ⌝ }
+{
+    for i in 0..marks {
+        if !is_mark(bytes, at + 26 * i, b'M', b'K') {
+            return false;
+        }
+    }
+    true
+}
+
+fn is_mark(bytes: &[u8], at: usize, first: u8, second: u8) -> bool
+    requires { ⌜ at + 2 ≤ length (now bytes) ⌝ }
+    ensures { λ r. ⌜ r ≡ isMark first second (now (bytes .entry)) at ⌝ }
+{
+    (bytes[at] == first) & (bytes[at + 1] == second)
+}
+
+// Two bytes, the lower first.
+fn pair_at(bytes: &[u8], at: usize) -> usize
+    requires { ⌜ at + 2 ≤ length (now bytes) ⌝ }
+    ensures { λ r. ⌜ (r ≡ littleEndian 2 (now (bytes .entry)) at) × (r < 65536) ⌝ }
+{
+    wide(bytes[at]) + 256 * wide(bytes[at + 1])
+}
+
+fn wide(byte: u8) -> usize
+    ensures { λ r. ⌜ (r ≡ byte) × (r < 256) ⌝ }
+{
+    byte as usize
+}

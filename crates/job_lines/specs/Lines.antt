@@ -1,0 +1,17 @@
+-- The lines of a printout. Definitions only.
+use mathlib.Core.List.{List, _++_}
+use Prim.Native.Nat.{ℕ}
+use lib.Ieee.{Float, binary64, toBits}
+use Rattle.digits.specs.Text.{ascii, decimal, hex16}
+
+-- marks in the file
+unfoldable pub marksLine : ℕ → List ℕ
+marksLine n = ascii "marks " ++ (decimal n ++ ascii "\n")
+
+-- bits of u, bits of v, budget left
+unfoldable pub pairLine : Float → Float → ℕ → List ℕ
+pairLine u v left = hex16 (toBits binary64 u) ++ (ascii " " ++ (hex16 (toBits binary64 v) ++ (ascii " " ++ (decimal left ++ ascii "\n"))))
+
+-- number, mark index
+unfoldable pub refusedLine : ℕ → ℕ → List ℕ
+refusedLine number index = ascii "refused " ++ (decimal number ++ (ascii " at " ++ (decimal index ++ ascii "\n")))
