@@ -9,7 +9,7 @@ mod traps;
 use crate::calls::{Pair, Point, Search, Surface};
 use crate::small::{Axis, KnotSide};
 
-pub use cases::{derivative, evaluate, inversion, plane, row, singular};
+pub use cases::{derivative, evaluate, inversion, plane, row, singular, small_inversion};
 pub use jobs::job;
 pub use random::Random;
 

@@ -142,7 +142,18 @@ pub fn evaluate(r: &mut Random) -> Case {
 }
 
 pub fn inversion(r: &mut Random) -> Inversion {
-    let ground = Ground::new(surface(r));
+    let surface = surface(r);
+    inversion_on(r, surface)
+}
+
+/// On a surface of few controls.
+pub fn small_inversion(r: &mut Random) -> Inversion {
+    let surface = small(r);
+    inversion_on(r, surface)
+}
+
+fn inversion_on(r: &mut Random, surface: Surface) -> Inversion {
+    let ground = Ground::new(surface);
     let mark = ground.mark(r);
     let search = ground.search(r, mark);
     let price = price(&ground.surface, mark, &search);

@@ -1,0 +1,49 @@
+/* Places a mark and then a row of them on a square. `make` builds and runs it. */
+#include "placing.h"
+#include <inttypes.h>
+#include <stdio.h>
+
+int main(void) {
+    /* Degrees 1 and 1: the point at (u, v) is (u, v, 0). */
+    const double knots[] = {0, 0, 1, 1};
+    const double net[] = {0, 0, 0, 0, 1, 0, 1, 0, 0, 1, 1, 0};
+    const double weights[] = {1, 1, 1, 1};
+    const placing_surface square = {
+        .degree_u = 1,
+        .degree_v = 1,
+        .controls_u = 2,
+        .controls_v = 2,
+        .knots_u = knots,
+        .knots_u_count = 4,
+        .knots_v = knots,
+        .knots_v_count = 4,
+        .controls = net,
+        .controls_count = 12,
+        .weights = weights,
+        .weights_count = 4,
+    };
+    uint64_t budget[] = {1000};
+    double pair[2];
+    uint64_t refused =
+        placing_invert(PLACING_SURFACE(&square), 0.25, 0.5, 0.75, PLACING_NONE, 0.5, PLACING_NONE,
+                       PLACING_NONE, PLACING_ARRAY(budget), PLACING_ARRAY(pair));
+    if (refused) {
+        printf("refused %" PRIu64 "\n", refused);
+        return 1;
+    }
+    printf("u %g, v %g, and %" PRIu64 " units are left\n", pair[0], pair[1], budget[0]);
+
+    /* From there on: the pair is the hint. */
+    const double marks[] = {0.3, 0.5, 0, 0.4, 0.5, 0, 0.5, 0.5, 0, 0.0 / 0.0, 0.5, 0};
+    uint64_t index[1];
+    double answers[8];
+    refused = placing_row(PLACING_SURFACE(&square), PLACING_ARRAY(marks), PLACING_ARRAY(pair), 1e-6,
+                          PLACING_NONE, PLACING_NONE, PLACING_ARRAY(budget), PLACING_ARRAY(index),
+                          PLACING_ARRAY(answers));
+    size_t placed = refused ? index[0] : sizeof marks / sizeof *marks / 3;
+    for (size_t i = 0; i < placed; i++)
+        printf("u %g, v %g\n", answers[2 * i], answers[2 * i + 1]);
+    printf("refused %" PRIu64 " at %" PRIu64 ", and %" PRIu64 " units are left\n", refused,
+           index[0], budget[0]);
+    return refused != PLACING_ARGUMENT;
+}

@@ -1,0 +1,117 @@
+/* Marks placed on a NURBS surface.
+ *
+ * Every function answers 0 or the number of a refusal and writes the rest of its answer to what is
+ * lent for it. Each tests every argument, for all input. A pointer goes with a count, of numbers:
+ * it must be good for so many, and what is written to must overlap nothing else that is lent. Where
+ * a count is 0 the pointer is not read; give PLACING_NONE, and not NULL.
+ *
+ * Numbers past those that a function writes keep their bits. A refusal leaves all of them as they
+ * were, but for the budget, which is what is left of it, and in a row the index and the pairs of the
+ * marks before the refused one.
+ *
+ * Link with -lm. */
+#ifndef PLACING_H
+#define PLACING_H
+
+#include <stddef.h>
+#include <stdint.h>
+
+#ifdef __cplusplus
+extern "C" {
+#endif
+
+enum placing_refusal {
+    PLACING_COUNTS = 1,      /* over 100,000 controls or 100,034 knots, or a count out of range */
+    PLACING_CONTROLS = 2,    /* the counts of controls or weights don't fit those of the shape */
+    PLACING_COORDINATE = 3,  /* a control's coordinate is not finite */
+    PLACING_WEIGHTS = 4,     /* no weights, or one not finite, not above 0, or 0 after division by the largest */
+    PLACING_DEGREE = 5,      /* a degree is 0 or above 16 */
+    PLACING_KNOTS = 6,       /* the knots of an axis are not right */
+    PLACING_ARGUMENT = 7,    /* a mark, vector, frame, hint, tolerance or period is not finite; or the
+                                tolerance is below 0, or a period not above 0 */
+    PLACING_UNITS = 8,       /* no unit of the budget was left for an evaluation */
+    PLACING_EVALUATION = 9,  /* an evaluation refused: outside, not finite, weight sum not above 0 */
+    PLACING_SINGULAR = 10,   /* the two derivatives there don't span a plane */
+    PLACING_ROW = 11,        /* marks not in threes, or less room than two numbers a mark */
+    PLACING_MISFIT = 99      /* flags above 3, a hint of neither 0 nor 2 numbers, a period of more
+                                than 1, or less room than a function writes: before any other
+                                check, and nothing is written */
+};
+
+/* A surface, whose arguments PLACING_SURFACE(&surface) lays out. */
+typedef struct placing_surface {
+    size_t degree_u, degree_v;
+    size_t controls_u, controls_v;
+    uint64_t flags; /* PLACING_PERIODIC_U, PLACING_PERIODIC_V, their sum, or 0 */
+    const double *knots_u;
+    size_t knots_u_count;
+    const double *knots_v;
+    size_t knots_v_count;
+    const double *controls; /* three coordinates each, u slowest */
+    size_t controls_count;  /* of coordinates */
+    const double *weights;
+    size_t weights_count;
+} placing_surface;
+
+enum { PLACING_PERIODIC_U = 1, PLACING_PERIODIC_V = 2 };
+
+#define PLACING_SURFACE(s)                                                                         \
+    (s)->degree_u, (s)->degree_v, (s)->controls_u, (s)->controls_v, (s)->flags, (s)->knots_u,      \
+        (s)->knots_u_count, (s)->knots_v, (s)->knots_v_count, (s)->controls, (s)->controls_count,  \
+        (s)->weights, (s)->weights_count
+
+/* An array and its count; and no numbers at all, for a hint or a period that there is not. */
+#define PLACING_ARRAY(a) (a), sizeof(a) / sizeof *(a)
+#define PLACING_NONE &placing_nothing, 0
+
+static const double placing_nothing = 0.0;
+
+#define PLACING_SURFACE_ARGUMENTS                                                                  \
+    size_t degree_u, size_t degree_v, size_t controls_u, size_t controls_v, uint64_t flags,        \
+        const double *knots_u, size_t knots_u_count, const double *knots_v, size_t knots_v_count,  \
+        const double *controls, size_t controls_count, const double *weights, size_t weights_count
+
+/* Point and first derivatives at (u, v): nine numbers, the point, along u, along v. */
+uint64_t placing_evaluate(PLACING_SURFACE_ARGUMENTS, double u, double v, double *jet,
+                          size_t jet_count);
+
+/* u and v of the surface point nearest to the mark: two numbers. The hint is none or two numbers,
+ * a period none or one. budget[0] is the budget of evaluations, and afterwards what is left. */
+uint64_t placing_invert(PLACING_SURFACE_ARGUMENTS, double x, double y, double z, const double *hint,
+                        size_t hint_count, double tolerance, const double *period_u,
+                        size_t period_u_count, const double *period_v, size_t period_v_count,
+                        uint64_t *budget, size_t budget_count, double *pair, size_t pair_count);
+
+/* A row of marks, three coordinates each: two numbers a mark. Each pair is the next mark's hint,
+ * and one budget serves all. index[0] is afterwards the index of the mark that was refused, and 0
+ * where none was. */
+uint64_t placing_row(PLACING_SURFACE_ARGUMENTS, const double *marks, size_t marks_count,
+                     const double *hint, size_t hint_count, double tolerance,
+                     const double *period_u, size_t period_u_count, const double *period_v,
+                     size_t period_v_count, uint64_t *budget, size_t budget_count, uint64_t *index,
+                     size_t index_count, double *answers, size_t answers_count);
+
+/* How u and v move as the surface point at them moves by the vector (x, y, z): two numbers, for a
+ * unit of the budget. They may be infinite or NaN. */
+uint64_t placing_derivative(PLACING_SURFACE_ARGUMENTS, double u, double v, double x, double y,
+                            double z, uint64_t *budget, size_t budget_count, double *pair,
+                            size_t pair_count);
+
+/* The edges along u at the lower and the upper end of v, then those along v at the ends of u:
+ * collapsed has four numbers, 1 for an edge along which the surface is one point within the
+ * tolerance, else 0. edges has twenty, five an edge, written where it collapses: the other axis's
+ * parameter, the point, and 1 at a lower end or -1 at an upper one. */
+uint64_t placing_nurbs_singular(PLACING_SURFACE_ARGUMENTS, double tolerance, uint64_t *collapsed,
+                                size_t collapsed_count, double *edges, size_t edges_count);
+
+/* The coordinates of the mark (x, y, z) in a plane's frame, its origin and the axes of u and of v
+ * as they are: two numbers, for a unit of the budget. They may be infinite or NaN. */
+uint64_t placing_plane(double ox, double oy, double oz, double ux, double uy, double uz, double vx,
+                       double vy, double vz, double x, double y, double z, uint64_t *budget,
+                       size_t budget_count, double *pair, size_t pair_count);
+
+#ifdef __cplusplus
+}
+#endif
+
+#endif

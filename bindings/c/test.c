@@ -1,0 +1,201 @@
+/* Every function of the library from C: answers, refusals, and what is left of longer arrays. */
+#include "placing.h"
+#include <stdio.h>
+#include <string.h>
+
+static int failures;
+#define EXPECT(fact)                                                                               \
+    do {                                                                                           \
+        if (!(fact)) {                                                                             \
+            printf("line %d: not so: %s\n", __LINE__, #fact);                                      \
+            failures++;                                                                            \
+        }                                                                                          \
+    } while (0)
+#define SAME(numbers, ...)                                                                         \
+    (memcmp(numbers, (const double[]){__VA_ARGS__}, sizeof(const double[]){__VA_ARGS__}) == 0)
+
+static const double knots[] = {0, 0, 1, 1};
+static const double net[] = {0, 0, 0, 0, 1, 0, 1, 0, 0, 1, 1, 0};
+static const double weights[] = {1, 1, 1, 1};
+static const placing_surface square = {1, 1, 2, 2, 0, knots, 4, knots, 4, net, 12, weights, 4};
+
+static void evaluate(void) {
+    double jet[10] = {[9] = 7};
+    EXPECT(!placing_evaluate(PLACING_SURFACE(&square), 0.25, 0.5, PLACING_ARRAY(jet)));
+    EXPECT(SAME(jet, 0.25, 0.5, 0, 1, 0, 0, 0, 1, 0, 7));
+    placing_surface s = square;
+    s.flags = PLACING_PERIODIC_U;
+    EXPECT(!placing_evaluate(PLACING_SURFACE(&s), 1.25, 0.5, PLACING_ARRAY(jet)));
+    EXPECT(placing_evaluate(PLACING_SURFACE(&s), 0.25, 1.5, PLACING_ARRAY(jet)) == PLACING_EVALUATION);
+    s.flags = PLACING_PERIODIC_V;
+    EXPECT(!placing_evaluate(PLACING_SURFACE(&s), 0.25, 1.5, PLACING_ARRAY(jet)));
+    EXPECT(SAME(jet, 0.25, 0.5, 0, 1, 0, 0, 0, 1, 0, 7));
+    EXPECT(placing_evaluate(PLACING_SURFACE(&s), 0.25, 1.5, jet, 8) == PLACING_MISFIT);
+    s.flags = 4;
+    EXPECT(placing_evaluate(PLACING_SURFACE(&s), 0.25, 0.5, PLACING_ARRAY(jet)) == PLACING_MISFIT);
+}
+
+/* Each refusal of a surface, by one fault at a time. */
+static void surfaces(void) {
+    const double infinite[] = {0, 0, 1.0 / 0.0, 0, 1, 0, 1, 0, 0, 1, 1, 0};
+    const double light[] = {1, 1, 1, 0};
+    const double disordered[] = {0, 1, 0, 1};
+    placing_surface s[7];
+    for (int i = 1; i < 7; i++)
+        s[i] = square;
+    s[PLACING_COUNTS].controls_u = SIZE_MAX;
+    s[PLACING_CONTROLS].controls_count = 11;
+    s[PLACING_COORDINATE].controls = infinite;
+    s[PLACING_WEIGHTS].weights = light;
+    s[PLACING_DEGREE].degree_v = 17;
+    s[PLACING_KNOTS].knots_v = disordered;
+    for (uint64_t i = 1; i < 7; i++) {
+        uint64_t budget[1] = {5}, index[1] = {9}, collapsed[4];
+        double out[20] = {7};
+        const double mark[3] = {0};
+        EXPECT(placing_evaluate(PLACING_SURFACE(&s[i]), 0, 0, PLACING_ARRAY(out)) == i);
+        EXPECT(placing_invert(PLACING_SURFACE(&s[i]), 0, 0, 0, PLACING_NONE, 0, PLACING_NONE,
+                              PLACING_NONE, PLACING_ARRAY(budget), PLACING_ARRAY(out)) == i);
+        EXPECT(placing_row(PLACING_SURFACE(&s[i]), PLACING_ARRAY(mark), PLACING_NONE, 0,
+                           PLACING_NONE, PLACING_NONE, PLACING_ARRAY(budget), PLACING_ARRAY(index),
+                           PLACING_ARRAY(out)) == i);
+        EXPECT(placing_derivative(PLACING_SURFACE(&s[i]), 0, 0, 1, 0, 0, PLACING_ARRAY(budget),
+                                  PLACING_ARRAY(out)) == i);
+        EXPECT(placing_nurbs_singular(PLACING_SURFACE(&s[i]), 0, PLACING_ARRAY(collapsed),
+                                      PLACING_ARRAY(out)) == i);
+        EXPECT(budget[0] == 5 && index[0] == 0 && out[0] == 7);
+    }
+}
+
+static void invert(void) {
+    const double hint[] = {5.25, -2.5, 0}, period[] = {1, 1};
+    uint64_t budget[2] = {92, 5};
+    double pair[3] = {[2] = 7};
+    EXPECT(!placing_invert(PLACING_SURFACE(&square), 0.25, 0.5, 0.75, PLACING_NONE, 0.5,
+                           PLACING_NONE, PLACING_NONE, PLACING_ARRAY(budget), PLACING_ARRAY(pair)));
+    EXPECT(SAME(pair, 0.25, 0.5, 7) && budget[0] == 0 && budget[1] == 5);
+    EXPECT(placing_invert(PLACING_SURFACE(&square), 0.25, 0.5, 0.75, PLACING_NONE, 0.5, PLACING_NONE,
+                          PLACING_NONE, PLACING_ARRAY(budget), PLACING_ARRAY(pair)) == PLACING_UNITS);
+    budget[0] = 1000;
+    EXPECT(!placing_invert(PLACING_SURFACE(&square), 0.25, 0.5, 0.75, hint, 2, 0.75, period, 1,
+                           PLACING_NONE, PLACING_ARRAY(budget), PLACING_ARRAY(pair)));
+    EXPECT(SAME(pair, 5.25, 0.5, 7));
+    EXPECT(!placing_invert(PLACING_SURFACE(&square), 0.25, 0.5, 0.75, hint, 2, 0.75, PLACING_NONE,
+                           period, 1, PLACING_ARRAY(budget), PLACING_ARRAY(pair)));
+    EXPECT(SAME(pair, 0.25, -2.5, 7));
+    budget[0] = 5;
+    EXPECT(placing_invert(PLACING_SURFACE(&square), 0, 0, 0, PLACING_NONE, -1, PLACING_NONE,
+                          PLACING_NONE, PLACING_ARRAY(budget), PLACING_ARRAY(pair)) == PLACING_ARGUMENT);
+    EXPECT(placing_invert(PLACING_SURFACE(&square), 0, 0, 0, hint, 1, 0, PLACING_NONE, PLACING_NONE,
+                          PLACING_ARRAY(budget), PLACING_ARRAY(pair)) == PLACING_MISFIT);
+    EXPECT(placing_invert(PLACING_SURFACE(&square), 0, 0, 0, hint, 3, 0, PLACING_NONE, PLACING_NONE,
+                          PLACING_ARRAY(budget), PLACING_ARRAY(pair)) == PLACING_MISFIT);
+    EXPECT(placing_invert(PLACING_SURFACE(&square), 0, 0, 0, PLACING_NONE, 0, period, 2,
+                          PLACING_NONE, PLACING_ARRAY(budget), PLACING_ARRAY(pair)) == PLACING_MISFIT);
+    EXPECT(placing_invert(PLACING_SURFACE(&square), 0, 0, 0, PLACING_NONE, 0, PLACING_NONE, period,
+                          2, PLACING_ARRAY(budget), PLACING_ARRAY(pair)) == PLACING_MISFIT);
+    EXPECT(placing_invert(PLACING_SURFACE(&square), 0, 0, 0, PLACING_NONE, 0, PLACING_NONE,
+                          PLACING_NONE, budget, 0, PLACING_ARRAY(pair)) == PLACING_MISFIT);
+    EXPECT(placing_invert(PLACING_SURFACE(&square), 0, 0, 0, PLACING_NONE, 0, PLACING_NONE,
+                          PLACING_NONE, PLACING_ARRAY(budget), pair, 1) == PLACING_MISFIT);
+    EXPECT(SAME(pair, 0.25, -2.5, 7) && budget[0] == 5);
+}
+
+static void row(void) {
+    const double marks[] = {0.25, 0.5, 0.75, 0.25, 0.5, 0.75};
+    uint64_t budget[1] = {1000}, index[2] = {9, 9};
+    double answers[5] = {7, 7, 7, 7, 7};
+    EXPECT(!placing_row(PLACING_SURFACE(&square), PLACING_ARRAY(marks), PLACING_NONE, 0.5,
+                        PLACING_NONE, PLACING_NONE, PLACING_ARRAY(budget), PLACING_ARRAY(index),
+                        PLACING_ARRAY(answers)));
+    EXPECT(SAME(answers, 0.25, 0.5, 0.25, 0.5, 7));
+    EXPECT(budget[0] == 814 && index[0] == 0 && index[1] == 9);
+    budget[0] = 100;
+    answers[2] = 7;
+    EXPECT(placing_row(PLACING_SURFACE(&square), PLACING_ARRAY(marks), PLACING_NONE, 0.5,
+                       PLACING_NONE, PLACING_NONE, PLACING_ARRAY(budget), PLACING_ARRAY(index),
+                       PLACING_ARRAY(answers)) == PLACING_UNITS);
+    EXPECT(SAME(answers, 0.25, 0.5, 7, 0.5, 7) && budget[0] == 0 && index[0] == 1);
+    EXPECT(placing_row(PLACING_SURFACE(&square), marks, 5, PLACING_NONE, 0.5, PLACING_NONE,
+                       PLACING_NONE, PLACING_ARRAY(budget), PLACING_ARRAY(index),
+                       PLACING_ARRAY(answers)) == PLACING_ROW);
+    EXPECT(placing_row(PLACING_SURFACE(&square), PLACING_ARRAY(marks), PLACING_NONE, 0.5,
+                       PLACING_NONE, PLACING_NONE, PLACING_ARRAY(budget), PLACING_ARRAY(index),
+                       answers, 3) == PLACING_ROW);
+    EXPECT(index[0] == 0);
+    index[0] = 9;
+    EXPECT(placing_row(PLACING_SURFACE(&square), PLACING_ARRAY(marks), marks, 1, 0.5, PLACING_NONE,
+                       PLACING_NONE, PLACING_ARRAY(budget), PLACING_ARRAY(index),
+                       PLACING_ARRAY(answers)) == PLACING_MISFIT);
+    EXPECT(placing_row(PLACING_SURFACE(&square), PLACING_ARRAY(marks), PLACING_NONE, 0.5,
+                       PLACING_NONE, PLACING_NONE, PLACING_ARRAY(budget), index, 0,
+                       PLACING_ARRAY(answers)) == PLACING_MISFIT);
+    EXPECT(placing_row(PLACING_SURFACE(&square), PLACING_ARRAY(marks), PLACING_NONE, 0.5,
+                       PLACING_NONE, PLACING_NONE, budget, 0, PLACING_ARRAY(index),
+                       PLACING_ARRAY(answers)) == PLACING_MISFIT);
+    EXPECT(index[0] == 9);
+}
+
+static void derivative(void) {
+    const double zeros[12] = {0};
+    placing_surface dot = square;
+    dot.controls = zeros;
+    uint64_t budget[1] = {2};
+    double pair[3] = {[2] = 7};
+    EXPECT(!placing_derivative(PLACING_SURFACE(&square), 0.25, 0.5, 3, 5, 7, PLACING_ARRAY(budget),
+                               PLACING_ARRAY(pair)));
+    EXPECT(SAME(pair, 3, 5, 7) && budget[0] == 1);
+    EXPECT(placing_derivative(PLACING_SURFACE(&dot), 0.25, 0.5, 3, 5, 7, PLACING_ARRAY(budget),
+                              PLACING_ARRAY(pair)) == PLACING_SINGULAR);
+    EXPECT(placing_derivative(PLACING_SURFACE(&dot), 0.25, 0.5, 3, 5, 7, PLACING_ARRAY(budget),
+                              PLACING_ARRAY(pair)) == PLACING_UNITS);
+    EXPECT(placing_derivative(PLACING_SURFACE(&dot), 0.25, 0.5, 3, 5, 7, PLACING_ARRAY(budget), pair,
+                              1) == PLACING_MISFIT);
+    EXPECT(SAME(pair, 3, 5, 7) && budget[0] == 0);
+}
+
+static void singular(void) {
+    uint64_t collapsed[5] = {[4] = 9};
+    double edges[21] = {[20] = 7};
+    EXPECT(!placing_nurbs_singular(PLACING_SURFACE(&square), 0.5, PLACING_ARRAY(collapsed),
+                                   PLACING_ARRAY(edges)));
+    EXPECT(collapsed[0] == 1 && collapsed[1] == 1 && collapsed[2] == 1 && collapsed[3] == 1 &&
+           collapsed[4] == 9);
+    EXPECT(SAME(edges, 0, 0.5, 0, 0, 1, 1, 0.5, 1, 0, -1, 0, 0, 0.5, 0, 1, 1, 1, 0.5, 0, -1, 7));
+    EXPECT(!placing_nurbs_singular(PLACING_SURFACE(&square), 0.25, PLACING_ARRAY(collapsed),
+                                   PLACING_ARRAY(edges)));
+    EXPECT(!collapsed[0] && !collapsed[1] && !collapsed[2] && !collapsed[3]);
+    EXPECT(placing_nurbs_singular(PLACING_SURFACE(&square), -1, PLACING_ARRAY(collapsed),
+                                  PLACING_ARRAY(edges)) == PLACING_ARGUMENT);
+    EXPECT(placing_nurbs_singular(PLACING_SURFACE(&square), 0.5, collapsed, 3,
+                                  PLACING_ARRAY(edges)) == PLACING_MISFIT);
+    EXPECT(placing_nurbs_singular(PLACING_SURFACE(&square), 0.5, PLACING_ARRAY(collapsed), edges,
+                                  19) == PLACING_MISFIT);
+}
+
+static void plane(void) {
+    uint64_t budget[1] = {1};
+    double pair[3] = {[2] = 7};
+    EXPECT(!placing_plane(1, 2, 3, 0, 1, 0, 0, 0, 2, 9, 5, 4, PLACING_ARRAY(budget),
+                          PLACING_ARRAY(pair)));
+    EXPECT(SAME(pair, 3, 2, 7) && budget[0] == 0);
+    EXPECT(placing_plane(1, 2, 3, 0, 1, 0, 0, 0, 2, 9, 5, 4, PLACING_ARRAY(budget),
+                         PLACING_ARRAY(pair)) == PLACING_UNITS);
+    EXPECT(placing_plane(1, 2, 3, 0, 1.0 / 0.0, 0, 0, 0, 2, 9, 5, 4, PLACING_ARRAY(budget),
+                         PLACING_ARRAY(pair)) == PLACING_ARGUMENT);
+    EXPECT(placing_plane(1, 2, 3, 0, 1, 0, 0, 0, 2, 9, 5, 4, PLACING_ARRAY(budget), pair, 1) ==
+           PLACING_MISFIT);
+}
+
+int main(void) {
+    evaluate();
+    surfaces();
+    invert();
+    row();
+    derivative();
+    singular();
+    plane();
+    if (failures == 0)
+        puts("all as it should be");
+    return failures != 0;
+}

@@ -1,0 +1,58 @@
+//! Places marks on a dome, one by itself and then a row: cargo run --example place
+use placing::{Edge, Hint, Period, Search, Surface};
+use std::error::Error;
+
+fn main() -> Result<(), Box<dyn Error>> {
+    // Degrees 2 and 2 over the unit square: four corners at height 0, the middle drawn up to 2.
+    let mut controls = Vec::new();
+    for x in [0., 1., 2.] {
+        for y in [0., 1., 2.] {
+            controls.extend([x, y, if (x, y) == (1., 1.) { 2. } else { 0. }]);
+        }
+    }
+    let knots = [0., 0., 0., 1., 1., 1.];
+    let dome = Surface {
+        degrees: [2, 2],
+        shape: [3, 3],
+        periodic: [false; 2],
+        knots: [&knots, &knots],
+        controls: &controls,
+        weights: &[1.; 9],
+    };
+    let search = Search {
+        hint: Hint::Nothing,
+        tolerance: 1e-9,
+        periods: [Period::Free; 2],
+    };
+
+    let mut budget = 100_000;
+    let [u, v] = dome.invert([1., 1., 3.], &search, &mut budget)?;
+    let at = dome.evaluate([u, v])?;
+    println!(
+        "the mark above the top lies at u {u}, v {v}, which is the point {:?}",
+        at.point
+    );
+
+    let marks = [0.5, 0.5, 0.25, 0.75, 0.5, 0.5, 1., 0.5, 0.5];
+    let mut pairs = [0.; 6];
+    dome.row(&marks, &search, &mut budget, &mut pairs)?;
+    for pair in pairs.chunks(2) {
+        println!("then u {:.6}, v {:.6}", pair[0], pair[1]);
+    }
+    println!("{budget} units are left");
+
+    let [du, dv] = dome.derivative([u, v], [1., 0., 0.], &mut budget)?;
+    println!("a step of 1 in x at the top is {du} in u and {dv} in v");
+    let collapsed = dome
+        .nurbs_singular(1e-9)?
+        .into_iter()
+        .filter(|edge| *edge != Edge::Open);
+    println!("{} of its edges collapse to a point", collapsed.count());
+
+    let refused = dome.invert([f64::NAN, 0., 0.], &search, &mut budget);
+    println!(
+        "a mark that is not a number is refused: {}",
+        refused.unwrap_err()
+    );
+    Ok(())
+}

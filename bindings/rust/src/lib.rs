@@ -1,0 +1,244 @@
+//! Marks placed on a NURBS surface: from a point near the surface to its u and v.
+//!
+//! The work is done by a static library whose every function is proved to meet its contract. Each
+//! call tests its own input and answers, for all input, a value or a [`Refusal`]; nothing that is
+//! lent is written to, but for a budget and a row's answers.
+//!
+//! ```
+//! use placing::{Hint, Period, Refusal, Search, Surface};
+//!
+//! // Degrees 1 and 1: the point at (u, v) is (u, v, 0).
+//! let square = Surface {
+//!     degrees: [1, 1],
+//!     shape: [2, 2],
+//!     periodic: [false, false],
+//!     knots: [&[0., 0., 1., 1.], &[0., 0., 1., 1.]],
+//!     controls: &[0., 0., 0., 0., 1., 0., 1., 0., 0., 1., 1., 0.],
+//!     weights: &[1.; 4],
+//! };
+//! let search = Search { hint: Hint::Nothing, tolerance: 0.5, periods: [Period::Free; 2] };
+//!
+//! // A unit of the budget is an evaluation of the surface.
+//! let mut budget = 100;
+//! assert_eq!(square.invert([0.25, 0.5, 0.75], &search, &mut budget), Ok([0.25, 0.5]));
+//! assert_eq!(budget, 8);
+//!
+//! // The same price is too much for what is left.
+//! assert_eq!(square.invert([0.25, 0.5, 0.75], &search, &mut budget), Err(Refusal::Units));
+//! assert_eq!(budget, 0);
+//! ```
+pub mod raw;
+mod refusal;
+
+pub use refusal::{Refusal, RowRefusal};
+use std::slice;
+
+/// What a call answers.
+pub type Answer<T> = Result<T, Refusal>;
+
+/// Three coordinates.
+pub type Point = [f64; 3];
+
+/// u and v.
+pub type Pair = [f64; 2];
+
+/// A surface as it is lent. Nothing of it is checked before a call.
+#[derive(Clone, Copy, Debug)]
+pub struct Surface<'a> {
+    pub degrees: [usize; 2],
+    /// Controls along u, and along v.
+    pub shape: [usize; 2],
+    /// Whether u, and v, wrap with the knot domain for a period.
+    pub periodic: [bool; 2],
+    /// For each axis degree + controls + 1 of them.
+    pub knots: [&'a [f64]; 2],
+    /// Three coordinates each, u slowest.
+    pub controls: &'a [f64],
+    pub weights: &'a [f64],
+}
+
+/// Where to look first, and the turn of the answer where an axis has a period.
+#[derive(Clone, Copy, Debug, PartialEq)]
+pub enum Hint {
+    Nothing,
+    At(Pair),
+}
+
+/// The period of an axis, by which an answer is moved to the hint's turn. The surface's own flag
+/// is another matter.
+#[derive(Clone, Copy, Debug, PartialEq)]
+pub enum Period {
+    Free,
+    Every(f64),
+}
+
+/// What guides a search.
+#[derive(Clone, Copy, Debug, PartialEq)]
+pub struct Search {
+    pub hint: Hint,
+    /// How near to the mark the end of the hint's run is good enough.
+    pub tolerance: f64,
+    pub periods: [Period; 2],
+}
+
+/// A surface point and its two first derivatives.
+#[derive(Clone, Copy, Debug, PartialEq)]
+pub struct Jet {
+    pub point: Point,
+    pub du: Point,
+    pub dv: Point,
+}
+
+/// An edge of the domain.
+#[derive(Clone, Copy, Debug, PartialEq)]
+pub enum Edge {
+    Open,
+    /// The surface is one point along it, within the tolerance: that of its middle.
+    Collapsed {
+        /// The other axis's parameter along the edge.
+        value: f64,
+        point: Point,
+        /// 1 at the lower end of the other axis, -1 at the upper.
+        side: f64,
+    },
+}
+
+/// A plane's origin and its axes, taken as they are.
+#[derive(Clone, Copy, Debug, PartialEq)]
+pub struct Frame {
+    pub origin: Point,
+    pub u: Point,
+    pub v: Point,
+}
+
+impl Surface<'_> {
+    /// Point and first derivatives at u and v. [`Refusal::Evaluation`] outside the domain.
+    pub fn evaluate(&self, [u, v]: Pair) -> Answer<Jet> {
+        let mut jet = [[0.; 3]; 3];
+        let number = raw::evaluate(&self.lent(), u, v, jet.as_flattened_mut());
+        let [point, du, dv] = jet;
+        answer(number, Jet { point, du, dv })
+    }
+
+    /// The pair of the surface point nearest to the mark. Each evaluation takes a unit of the
+    /// budget, of which what is left is written back.
+    pub fn invert(&self, mark: Point, search: &Search, budget: &mut u64) -> Answer<Pair> {
+        let mut pair = [0.; 2];
+        let [pu, pv] = &search.periods;
+        let number = raw::invert(
+            &self.lent(),
+            mark,
+            search.hint.numbers(),
+            search.tolerance,
+            pu.numbers(),
+            pv.numbers(),
+            slice::from_mut(budget),
+            &mut pair,
+        );
+        answer(number, pair)
+    }
+
+    /// The pairs of a row of marks, three coordinates each, written to `answers`, two numbers a
+    /// mark. Each pair is the next mark's hint, and one budget serves all. Where a mark is
+    /// refused the pairs before it are written, and all later numbers keep their bits.
+    pub fn row(
+        &self,
+        marks: &[f64],
+        search: &Search,
+        budget: &mut u64,
+        answers: &mut [f64],
+    ) -> Result<(), RowRefusal> {
+        let mut index = 0;
+        let [pu, pv] = &search.periods;
+        let number = raw::row(
+            &self.lent(),
+            marks,
+            search.hint.numbers(),
+            search.tolerance,
+            pu.numbers(),
+            pv.numbers(),
+            slice::from_mut(budget),
+            slice::from_mut(&mut index),
+            answers,
+        );
+        answer(number, ()).map_err(|refusal| RowRefusal {
+            refusal,
+            index: index as usize,
+        })
+    }
+
+    /// How u and v move as the surface point at them moves by a vector, for a unit.
+    pub fn derivative(&self, [u, v]: Pair, vector: Point, budget: &mut u64) -> Answer<Pair> {
+        let mut pair = [0.; 2];
+        let budget = slice::from_mut(budget);
+        let number = raw::derivative(&self.lent(), u, v, vector, budget, &mut pair);
+        answer(number, pair)
+    }
+
+    /// The edges along u at the lower and at the upper end of v, then those along v at the ends
+    /// of u.
+    pub fn nurbs_singular(&self, tolerance: f64) -> Answer<[Edge; 4]> {
+        let mut collapsed = [0; 4];
+        let mut edges = [[0.; 5]; 4];
+        let number = raw::nurbs_singular(
+            &self.lent(),
+            tolerance,
+            &mut collapsed,
+            edges.as_flattened_mut(),
+        );
+        let edge = |i: usize| {
+            let [value, x, y, z, side] = edges[i];
+            let point = [x, y, z];
+            if collapsed[i] == 0 {
+                Edge::Open
+            } else {
+                Edge::Collapsed { value, point, side }
+            }
+        };
+        answer(number, [0, 1, 2, 3].map(edge))
+    }
+
+    fn lent(&self) -> raw::Lent<'_> {
+        raw::Lent {
+            degrees: self.degrees,
+            shape: self.shape,
+            flags: u64::from(self.periodic[0]) + 2 * u64::from(self.periodic[1]),
+            knots: self.knots,
+            controls: self.controls,
+            weights: self.weights,
+        }
+    }
+}
+
+/// The coordinates of a mark in a plane's frame, for a unit. They may be infinite or NaN.
+pub fn plane(frame: &Frame, mark: Point, budget: &mut u64) -> Answer<Pair> {
+    let mut pair = [0.; 2];
+    let frame = [frame.origin, frame.u, frame.v];
+    let number = raw::plane(frame, mark, slice::from_mut(budget), &mut pair);
+    answer(number, pair)
+}
+
+impl Hint {
+    fn numbers(&self) -> &[f64] {
+        match self {
+            Self::Nothing => &[],
+            Self::At(pair) => pair,
+        }
+    }
+}
+
+impl Period {
+    fn numbers(&self) -> &[f64] {
+        match self {
+            Self::Free => &[],
+            Self::Every(period) => slice::from_ref(period),
+        }
+    }
+}
+
+fn answer<T>(number: u64, value: T) -> Answer<T> {
+    match number {
+        0 => Ok(value),
+        _ => Err(Refusal::of(number)),
+    }
+}

@@ -1,0 +1,178 @@
+//! The library's own functions: what they refuse with 99, and what they leave of longer slices.
+use placing::raw::{self, Lent};
+
+const KNOTS: [f64; 4] = [0., 0., 1., 1.];
+
+fn square(flags: u64) -> Lent<'static> {
+    Lent {
+        degrees: [1, 1],
+        shape: [2, 2],
+        flags,
+        knots: [&KNOTS, &KNOTS],
+        controls: &[0., 0., 0., 0., 1., 0., 1., 0., 0., 1., 1., 0.],
+        weights: &[1.; 4],
+    }
+}
+
+const MARK: [f64; 3] = [0.25, 0.5, 0.75];
+
+#[test]
+fn flags_above_three() {
+    for flags in [4, 5, u64::MAX] {
+        let s = &square(flags);
+        let (mut budget, mut index, mut collapsed) = ([9], [9], [9; 4]);
+        let mut out = [7.; 20];
+        let b = &mut budget;
+        assert_eq!(raw::evaluate(s, 0., 0., &mut out), 99);
+        assert_eq!(raw::invert(s, MARK, &[], 0.5, &[], &[], b, &mut out), 99);
+        assert_eq!(
+            raw::row(s, &MARK, &[], 0.5, &[], &[], b, &mut index, &mut out),
+            99
+        );
+        assert_eq!(raw::derivative(s, 0., 0., MARK, b, &mut out), 99);
+        assert_eq!(raw::nurbs_singular(s, 0.5, &mut collapsed, &mut out), 99);
+        assert_eq!(
+            (budget, index, collapsed, out),
+            ([9], [9], [9; 4], [7.; 20])
+        );
+    }
+}
+
+#[test]
+fn hints_and_periods_of_other_counts() {
+    let s = &square(0);
+    let three = [0.5; 3];
+    let cases: [[&[f64]; 3]; 6] = [
+        [&three[..1], &[], &[]],
+        [&three, &[], &[]],
+        [&[], &three[..2], &[]],
+        [&[], &[], &three[..2]],
+        [&[], &three, &[]],
+        [&[], &[], &three],
+    ];
+    for [hint, pu, pv] in cases {
+        let (mut budget, mut index, mut out) = ([9], [9], [7.; 2]);
+        assert_eq!(
+            raw::invert(s, MARK, hint, 0.5, pu, pv, &mut budget, &mut out),
+            99
+        );
+        let number = raw::row(
+            s,
+            &MARK,
+            hint,
+            0.5,
+            pu,
+            pv,
+            &mut budget,
+            &mut index,
+            &mut out,
+        );
+        assert_eq!(number, 99);
+        assert_eq!((budget, index, out), ([9], [9], [7.; 2]));
+    }
+}
+
+#[test]
+fn slices_too_short() {
+    let s = &square(0);
+    let frame = [[0.; 3], [1., 0., 0.], [0., 1., 0.]];
+    let (mut budget, mut out) = ([9], [7.; 19]);
+    let mut index = [9];
+    let none = &mut [];
+    assert_eq!(raw::evaluate(s, 0., 0., &mut out[..8]), 99);
+    assert_eq!(raw::invert(s, MARK, &[], 0.5, &[], &[], none, &mut out), 99);
+    assert_eq!(
+        raw::invert(s, MARK, &[], 0.5, &[], &[], &mut budget, &mut out[..1]),
+        99
+    );
+    assert_eq!(
+        raw::row(s, &MARK, &[], 0.5, &[], &[], none, &mut index, &mut out),
+        99
+    );
+    assert_eq!(
+        raw::row(s, &MARK, &[], 0.5, &[], &[], &mut budget, none, &mut out),
+        99
+    );
+    assert_eq!(raw::derivative(s, 0., 0., MARK, none, &mut out), 99);
+    assert_eq!(
+        raw::derivative(s, 0., 0., MARK, &mut budget, &mut out[..1]),
+        99
+    );
+    assert_eq!(raw::plane(frame, MARK, none, &mut out), 99);
+    assert_eq!(raw::plane(frame, MARK, &mut budget, &mut out[..1]), 99);
+    assert_eq!(raw::nurbs_singular(s, 0.5, &mut [9; 4], &mut out), 99);
+    assert_eq!(raw::nurbs_singular(s, 0.5, &mut [9; 3], &mut [7.; 20]), 99);
+    assert_eq!((budget, index, out), ([9], [9], [7.; 19]));
+    // A row's answers have a number of their own.
+    let number = raw::row(
+        s,
+        &MARK,
+        &[],
+        0.5,
+        &[],
+        &[],
+        &mut budget,
+        &mut index,
+        &mut out[..1],
+    );
+    assert_eq!((number, budget, index, out), (11, [9], [0], [7.; 19]));
+}
+
+#[test]
+fn longer_slices_keep_their_bits() {
+    let s = &square(0);
+    let odd = f64::from_bits(0x7ff0_0000_0000_0123);
+    let kept = |numbers: &[f64]| numbers.iter().all(|x| x.to_bits() == odd.to_bits());
+    let mut jet = [odd; 12];
+    assert_eq!(raw::evaluate(s, 0.25, 0.5, &mut jet), 0);
+    assert_eq!(jet[..9], [0.25, 0.5, 0., 1., 0., 0., 0., 1., 0.]);
+    assert!(kept(&jet[9..]));
+
+    let (mut budget, mut pair) = ([100, 5], [odd; 4]);
+    assert_eq!(
+        raw::invert(s, MARK, &[], 0.5, &[], &[], &mut budget, &mut pair),
+        0
+    );
+    assert_eq!((budget, &pair[..2]), ([8, 5], &[0.25, 0.5][..]));
+    assert!(kept(&pair[2..]));
+
+    let mut pair = [odd; 4];
+    assert_eq!(
+        raw::derivative(s, 0.25, 0.5, [3., 5., 7.], &mut budget, &mut pair),
+        0
+    );
+    assert_eq!((budget, &pair[..2]), ([7, 5], &[3., 5.][..]));
+    assert!(kept(&pair[2..]));
+
+    let (mut index, mut answers) = ([9, 9], [odd; 4]);
+    assert_eq!(
+        raw::row(
+            s,
+            &MARK,
+            &[0.25, 0.5],
+            0.75,
+            &[],
+            &[],
+            &mut budget,
+            &mut index,
+            &mut answers
+        ),
+        0
+    );
+    assert_eq!(
+        (budget, index, &answers[..2]),
+        ([6, 5], [0, 9], &[0.25, 0.5][..])
+    );
+    assert!(kept(&answers[2..]));
+
+    let frame = [[0.; 3], [1., 0., 0.], [0., 1., 0.]];
+    let mut pair = [odd; 4];
+    assert_eq!(raw::plane(frame, MARK, &mut budget, &mut pair), 0);
+    assert_eq!((budget, &pair[..2]), ([5, 5], &[0.25, 0.5][..]));
+    assert!(kept(&pair[2..]));
+
+    let (mut collapsed, mut edges) = ([9; 5], [odd; 22]);
+    assert_eq!(raw::nurbs_singular(s, 0.25, &mut collapsed, &mut edges), 0);
+    assert_eq!(collapsed, [0, 0, 0, 0, 9]);
+    assert!(kept(&edges));
+}

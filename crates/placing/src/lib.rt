@@ -1,0 +1,267 @@
+// The calls for C and Rust, on numbers and lent slices. Each tests every argument, answers the number of its refusal or 0, and writes the rest of its answer to the slices lent for it.
+// A surface is lent as the degrees (du, dv) and the counts of controls (nu, nv), the flags (1 where u is periodic, and 2 more where v is), the knots (ku, kv), the controls and the weights.
+mod answers;
+mod arguments;
+mod ends;
+
+use answers::lay_jet;
+use answers::lay_placing;
+use arguments::hint_of;
+use arguments::period_of;
+use arguments::roomy;
+use arguments::roomy_edges;
+use arguments::roomy_row;
+use arguments::shape_of;
+use arguments::sound_flags;
+use arguments::sound_options;
+use edges::nurbs_singular;
+use ends::lay_edges;
+use ends::lay_ended;
+use inverter::Frame;
+use inverter::derivative;
+use inverter::invert;
+use inverter::invert_plane;
+use row::row;
+use surface::evaluate;
+use vector3::Vector3;
+ghost use mathlib.Core.Path.{_≡_};
+ghost use Rattle.surface.specs.Surface.{surface};
+ghost use Rattle.placing.specs.Boundary.{shapeOf, vector, evaluates, inverts, rows, derives, tells, locates};
+
+// Answered, before any other check and with nothing written, where flags are above 3, a hint or a period has another count of numbers, or a slice is too short for what is to be written. No document gives this number a meaning of its own.
+const UNFIT: u64 = 99;
+
+// Nine numbers: the point, the derivative along u and that along v.
+#[no_mangle]
+pub extern "C" fn placing_evaluate(
+    du: usize,
+    dv: usize,
+    nu: usize,
+    nv: usize,
+    flags: u64,
+    ku: &[f64],
+    kv: &[f64],
+    controls: &[f64],
+    weights: &[f64],
+    u: f64,
+    v: f64,
+    jet: &mut [f64],
+) -> u64
+    ensures { λ r. ⌜ r ≡ evaluates flags (surface (shapeOf du dv nu nv flags) (now (ku .entry)) (now (kv .entry)) (now (controls .entry)) (now (weights .entry))) u v (now (jet .entry)) .number ⌝ }
+    ensures { λ _. ⌜ now (jet .exit) ≡ evaluates flags (surface (shapeOf du dv nu nv flags) (now (ku .entry)) (now (kv .entry)) (now (controls .entry)) (now (weights .entry))) u v (now (jet .entry)) .jet ⌝ }
+{
+    let fit = sound_flags(flags) & (9 <= jet.len());
+    if !fit {
+        return UNFIT;
+    }
+    let shape = shape_of(du, dv, nu, nv, flags);
+    let found = evaluate(shape, ku, kv, controls, weights, u, v);
+    lay_jet(found, jet)
+}
+
+// The surface point nearest to the mark (x, y, z). A hint is two numbers or none, a period (pu, pv) one or none.
+#[no_mangle]
+pub extern "C" fn placing_invert(
+    du: usize,
+    dv: usize,
+    nu: usize,
+    nv: usize,
+    flags: u64,
+    ku: &[f64],
+    kv: &[f64],
+    controls: &[f64],
+    weights: &[f64],
+    x: f64,
+    y: f64,
+    z: f64,
+    hint: &[f64],
+    tolerance: f64,
+    pu: &[f64],
+    pv: &[f64],
+    budget: &mut [u64],
+    pair: &mut [f64],
+) -> u64
+    ensures { λ r. ⌜ r ≡ inverts flags (surface (shapeOf du dv nu nv flags) (now (ku .entry)) (now (kv .entry)) (now (controls .entry)) (now (weights .entry))) (vector x y z) (now (hint .entry)) tolerance (now (pu .entry)) (now (pv .entry)) (now (budget .entry)) (now (pair .entry)) .number ⌝ }
+    ensures { λ _. ⌜ now (budget .exit) ≡ inverts flags (surface (shapeOf du dv nu nv flags) (now (ku .entry)) (now (kv .entry)) (now (controls .entry)) (now (weights .entry))) (vector x y z) (now (hint .entry)) tolerance (now (pu .entry)) (now (pv .entry)) (now (budget .entry)) (now (pair .entry)) .budget ⌝ }
+    ensures { λ _. ⌜ now (pair .exit) ≡ inverts flags (surface (shapeOf du dv nu nv flags) (now (ku .entry)) (now (kv .entry)) (now (controls .entry)) (now (weights .entry))) (vector x y z) (now (hint .entry)) tolerance (now (pu .entry)) (now (pv .entry)) (now (budget .entry)) (now (pair .entry)) .pair ⌝ }
+{
+    let fit = sound_flags(flags) & sound_options(hint, pu, pv) & roomy(budget, pair);
+    if !fit {
+        return UNFIT;
+    }
+    let shape = shape_of(du, dv, nu, nv, flags);
+    let mark = Vector3 { x, y, z };
+    let placing = invert(
+        shape,
+        ku,
+        kv,
+        controls,
+        weights,
+        mark,
+        hint_of(hint),
+        tolerance,
+        period_of(pu),
+        period_of(pv),
+        budget[0],
+    );
+    lay_placing(placing, budget, pair)
+}
+
+// A row of marks, three coordinates each, for two numbers an answer. The index is that of the mark refused, if one was.
+#[no_mangle]
+pub extern "C" fn placing_row(
+    du: usize,
+    dv: usize,
+    nu: usize,
+    nv: usize,
+    flags: u64,
+    ku: &[f64],
+    kv: &[f64],
+    controls: &[f64],
+    weights: &[f64],
+    marks: &[f64],
+    hint: &[f64],
+    tolerance: f64,
+    pu: &[f64],
+    pv: &[f64],
+    budget: &mut [u64],
+    index: &mut [u64],
+    answers: &mut [f64],
+) -> u64
+    ensures { λ r. ⌜ r ≡ rows flags (surface (shapeOf du dv nu nv flags) (now (ku .entry)) (now (kv .entry)) (now (controls .entry)) (now (weights .entry))) (now (marks .entry)) (now (hint .entry)) tolerance (now (pu .entry)) (now (pv .entry)) (now (budget .entry)) (now (index .entry)) (now (answers .entry)) .number ⌝ }
+    ensures { λ _. ⌜ now (budget .exit) ≡ rows flags (surface (shapeOf du dv nu nv flags) (now (ku .entry)) (now (kv .entry)) (now (controls .entry)) (now (weights .entry))) (now (marks .entry)) (now (hint .entry)) tolerance (now (pu .entry)) (now (pv .entry)) (now (budget .entry)) (now (index .entry)) (now (answers .entry)) .budget ⌝ }
+    ensures { λ _. ⌜ now (index .exit) ≡ rows flags (surface (shapeOf du dv nu nv flags) (now (ku .entry)) (now (kv .entry)) (now (controls .entry)) (now (weights .entry))) (now (marks .entry)) (now (hint .entry)) tolerance (now (pu .entry)) (now (pv .entry)) (now (budget .entry)) (now (index .entry)) (now (answers .entry)) .index ⌝ }
+    ensures { λ _. ⌜ now (answers .exit) ≡ rows flags (surface (shapeOf du dv nu nv flags) (now (ku .entry)) (now (kv .entry)) (now (controls .entry)) (now (weights .entry))) (now (marks .entry)) (now (hint .entry)) tolerance (now (pu .entry)) (now (pv .entry)) (now (budget .entry)) (now (index .entry)) (now (answers .entry)) .answers ⌝ }
+{
+    let fit = sound_flags(flags) & sound_options(hint, pu, pv) & roomy_row(budget, index);
+    if !fit {
+        return UNFIT;
+    }
+    let shape = shape_of(du, dv, nu, nv, flags);
+    let ended = row(
+        shape,
+        ku,
+        kv,
+        controls,
+        weights,
+        marks,
+        hint_of(hint),
+        tolerance,
+        period_of(pu),
+        period_of(pv),
+        budget[0],
+        answers,
+    );
+    lay_ended(ended, budget, index)
+}
+
+// How u and v move as the surface point at them moves by the vector (x, y, z).
+#[no_mangle]
+pub extern "C" fn placing_derivative(
+    du: usize,
+    dv: usize,
+    nu: usize,
+    nv: usize,
+    flags: u64,
+    ku: &[f64],
+    kv: &[f64],
+    controls: &[f64],
+    weights: &[f64],
+    u: f64,
+    v: f64,
+    x: f64,
+    y: f64,
+    z: f64,
+    budget: &mut [u64],
+    pair: &mut [f64],
+) -> u64
+    ensures { λ r. ⌜ r ≡ derives flags (surface (shapeOf du dv nu nv flags) (now (ku .entry)) (now (kv .entry)) (now (controls .entry)) (now (weights .entry))) u v (vector x y z) (now (budget .entry)) (now (pair .entry)) .number ⌝ }
+    ensures { λ _. ⌜ now (budget .exit) ≡ derives flags (surface (shapeOf du dv nu nv flags) (now (ku .entry)) (now (kv .entry)) (now (controls .entry)) (now (weights .entry))) u v (vector x y z) (now (budget .entry)) (now (pair .entry)) .budget ⌝ }
+    ensures { λ _. ⌜ now (pair .exit) ≡ derives flags (surface (shapeOf du dv nu nv flags) (now (ku .entry)) (now (kv .entry)) (now (controls .entry)) (now (weights .entry))) u v (vector x y z) (now (budget .entry)) (now (pair .entry)) .pair ⌝ }
+{
+    let fit = sound_flags(flags) & roomy(budget, pair);
+    if !fit {
+        return UNFIT;
+    }
+    let shape = shape_of(du, dv, nu, nv, flags);
+    let d = Vector3 { x, y, z };
+    let placing = derivative(shape, ku, kv, controls, weights, u, v, d, budget[0]);
+    lay_placing(placing, budget, pair)
+}
+
+// The edges along u at the lower and upper end of v, then those along v at the ends of u: whether each collapses, and five numbers of each that does.
+#[no_mangle]
+pub extern "C" fn placing_nurbs_singular(
+    du: usize,
+    dv: usize,
+    nu: usize,
+    nv: usize,
+    flags: u64,
+    ku: &[f64],
+    kv: &[f64],
+    controls: &[f64],
+    weights: &[f64],
+    tolerance: f64,
+    collapsed: &mut [u64],
+    edges: &mut [f64],
+) -> u64
+    ensures { λ r. ⌜ r ≡ tells flags (surface (shapeOf du dv nu nv flags) (now (ku .entry)) (now (kv .entry)) (now (controls .entry)) (now (weights .entry))) tolerance (now (collapsed .entry)) (now (edges .entry)) .number ⌝ }
+    ensures { λ _. ⌜ now (collapsed .exit) ≡ tells flags (surface (shapeOf du dv nu nv flags) (now (ku .entry)) (now (kv .entry)) (now (controls .entry)) (now (weights .entry))) tolerance (now (collapsed .entry)) (now (edges .entry)) .collapsed ⌝ }
+    ensures { λ _. ⌜ now (edges .exit) ≡ tells flags (surface (shapeOf du dv nu nv flags) (now (ku .entry)) (now (kv .entry)) (now (controls .entry)) (now (weights .entry))) tolerance (now (collapsed .entry)) (now (edges .entry)) .edges ⌝ }
+{
+    let fit = sound_flags(flags) & roomy_edges(collapsed, edges);
+    if !fit {
+        return UNFIT;
+    }
+    let shape = shape_of(du, dv, nu, nv, flags);
+    let found = nurbs_singular(shape, ku, kv, controls, weights, tolerance);
+    lay_edges(found, collapsed, edges)
+}
+
+// The coordinates of the mark (x, y, z) in a plane's frame: its origin (ox, oy, oz) and the axes of u and of v.
+#[no_mangle]
+pub extern "C" fn placing_plane(
+    ox: f64,
+    oy: f64,
+    oz: f64,
+    ux: f64,
+    uy: f64,
+    uz: f64,
+    vx: f64,
+    vy: f64,
+    vz: f64,
+    x: f64,
+    y: f64,
+    z: f64,
+    budget: &mut [u64],
+    pair: &mut [f64],
+) -> u64
+    ensures { λ r. ⌜ r ≡ locates (record { origin = vector ox oy oz; x = vector ux uy uz; y = vector vx vy vz }) (vector x y z) (now (budget .entry)) (now (pair .entry)) .number ⌝ }
+    ensures { λ _. ⌜ now (budget .exit) ≡ locates (record { origin = vector ox oy oz; x = vector ux uy uz; y = vector vx vy vz }) (vector x y z) (now (budget .entry)) (now (pair .entry)) .budget ⌝ }
+    ensures { λ _. ⌜ now (pair .exit) ≡ locates (record { origin = vector ox oy oz; x = vector ux uy uz; y = vector vx vy vz }) (vector x y z) (now (budget .entry)) (now (pair .entry)) .pair ⌝ }
+{
+    let fit = roomy(budget, pair);
+    if !fit {
+        return UNFIT;
+    }
+    let frame = Frame {
+        origin: Vector3 {
+            x: ox,
+            y: oy,
+            z: oz,
+        },
+        x: Vector3 {
+            x: ux,
+            y: uy,
+            z: uz,
+        },
+        y: Vector3 {
+            x: vx,
+            y: vy,
+            z: vz,
+        },
+    };
+    let mark = Vector3 { x, y, z };
+    let placing = invert_plane(frame, mark, budget[0]);
+    lay_placing(placing, budget, pair)
+}
