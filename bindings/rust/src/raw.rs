@@ -167,31 +167,35 @@ unsafe extern "C" {
     ) -> u64;
 }
 
+/// Calls a function on a lent surface, with the other arguments after it.
+macro_rules! on {
+    ($call:ident, $surface:ident, $($argument:expr),+ $(,)?) => {
+        // Each pointer goes with the count of the slice it is from, and no two that are written
+        // to overlap.
+        unsafe {
+            $call(
+                $surface.degrees[0],
+                $surface.degrees[1],
+                $surface.shape[0],
+                $surface.shape[1],
+                $surface.flags,
+                $surface.knots[0].as_ptr(),
+                $surface.knots[0].len(),
+                $surface.knots[1].as_ptr(),
+                $surface.knots[1].len(),
+                $surface.controls.as_ptr(),
+                $surface.controls.len(),
+                $surface.weights.as_ptr(),
+                $surface.weights.len(),
+                $($argument),+
+            )
+        }
+    };
+}
+
 /// Point and first derivatives at (u, v): nine numbers to `jet`.
 pub fn evaluate(s: &Lent, u: f64, v: f64, jet: &mut [f64]) -> u64 {
-    // Each pointer goes with the count of the slice it is from, and no two that are written
-    // to overlap.
-    unsafe {
-        placing_evaluate(
-            s.degrees[0],
-            s.degrees[1],
-            s.shape[0],
-            s.shape[1],
-            s.flags,
-            s.knots[0].as_ptr(),
-            s.knots[0].len(),
-            s.knots[1].as_ptr(),
-            s.knots[1].len(),
-            s.controls.as_ptr(),
-            s.controls.len(),
-            s.weights.as_ptr(),
-            s.weights.len(),
-            u,
-            v,
-            jet.as_mut_ptr(),
-            jet.len(),
-        )
-    }
+    on!(placing_evaluate, s, u, v, jet.as_mut_ptr(), jet.len())
 }
 
 /// The pair of the surface point nearest to a mark: two numbers to `pair`. `budget[0]` is the
@@ -208,37 +212,24 @@ pub fn invert(
     pair: &mut [f64],
 ) -> u64 {
     let [x, y, z] = mark;
-    unsafe {
-        placing_invert(
-            s.degrees[0],
-            s.degrees[1],
-            s.shape[0],
-            s.shape[1],
-            s.flags,
-            s.knots[0].as_ptr(),
-            s.knots[0].len(),
-            s.knots[1].as_ptr(),
-            s.knots[1].len(),
-            s.controls.as_ptr(),
-            s.controls.len(),
-            s.weights.as_ptr(),
-            s.weights.len(),
-            x,
-            y,
-            z,
-            hint.as_ptr(),
-            hint.len(),
-            tolerance,
-            period_u.as_ptr(),
-            period_u.len(),
-            period_v.as_ptr(),
-            period_v.len(),
-            budget.as_mut_ptr(),
-            budget.len(),
-            pair.as_mut_ptr(),
-            pair.len(),
-        )
-    }
+    on!(
+        placing_invert,
+        s,
+        x,
+        y,
+        z,
+        hint.as_ptr(),
+        hint.len(),
+        tolerance,
+        period_u.as_ptr(),
+        period_u.len(),
+        period_v.as_ptr(),
+        period_v.len(),
+        budget.as_mut_ptr(),
+        budget.len(),
+        pair.as_mut_ptr(),
+        pair.len(),
+    )
 }
 
 /// A row of marks, three coordinates each: two numbers a mark to `answers`. Each answer is the
@@ -256,38 +247,25 @@ pub fn row(
     index: &mut [u64],
     answers: &mut [f64],
 ) -> u64 {
-    unsafe {
-        placing_row(
-            s.degrees[0],
-            s.degrees[1],
-            s.shape[0],
-            s.shape[1],
-            s.flags,
-            s.knots[0].as_ptr(),
-            s.knots[0].len(),
-            s.knots[1].as_ptr(),
-            s.knots[1].len(),
-            s.controls.as_ptr(),
-            s.controls.len(),
-            s.weights.as_ptr(),
-            s.weights.len(),
-            marks.as_ptr(),
-            marks.len(),
-            hint.as_ptr(),
-            hint.len(),
-            tolerance,
-            period_u.as_ptr(),
-            period_u.len(),
-            period_v.as_ptr(),
-            period_v.len(),
-            budget.as_mut_ptr(),
-            budget.len(),
-            index.as_mut_ptr(),
-            index.len(),
-            answers.as_mut_ptr(),
-            answers.len(),
-        )
-    }
+    on!(
+        placing_row,
+        s,
+        marks.as_ptr(),
+        marks.len(),
+        hint.as_ptr(),
+        hint.len(),
+        tolerance,
+        period_u.as_ptr(),
+        period_u.len(),
+        period_v.as_ptr(),
+        period_v.len(),
+        budget.as_mut_ptr(),
+        budget.len(),
+        index.as_mut_ptr(),
+        index.len(),
+        answers.as_mut_ptr(),
+        answers.len(),
+    )
 }
 
 /// How u and v move as the surface point at (u, v) moves by a vector: two numbers to `pair`.
@@ -300,32 +278,19 @@ pub fn derivative(
     pair: &mut [f64],
 ) -> u64 {
     let [x, y, z] = vector;
-    unsafe {
-        placing_derivative(
-            s.degrees[0],
-            s.degrees[1],
-            s.shape[0],
-            s.shape[1],
-            s.flags,
-            s.knots[0].as_ptr(),
-            s.knots[0].len(),
-            s.knots[1].as_ptr(),
-            s.knots[1].len(),
-            s.controls.as_ptr(),
-            s.controls.len(),
-            s.weights.as_ptr(),
-            s.weights.len(),
-            u,
-            v,
-            x,
-            y,
-            z,
-            budget.as_mut_ptr(),
-            budget.len(),
-            pair.as_mut_ptr(),
-            pair.len(),
-        )
-    }
+    on!(
+        placing_derivative,
+        s,
+        u,
+        v,
+        x,
+        y,
+        z,
+        budget.as_mut_ptr(),
+        budget.len(),
+        pair.as_mut_ptr(),
+        pair.len(),
+    )
 }
 
 /// The edges of the domain that collapse to a point: those along u at the lower and at the upper
@@ -333,28 +298,15 @@ pub fn derivative(
 /// the others; `edges` five numbers an edge, which an edge that does not collapse leaves as they
 /// were: the value of the other axis, the point, and 1 at a lower end or -1 at an upper one.
 pub fn nurbs_singular(s: &Lent, tolerance: f64, collapsed: &mut [u64], edges: &mut [f64]) -> u64 {
-    unsafe {
-        placing_nurbs_singular(
-            s.degrees[0],
-            s.degrees[1],
-            s.shape[0],
-            s.shape[1],
-            s.flags,
-            s.knots[0].as_ptr(),
-            s.knots[0].len(),
-            s.knots[1].as_ptr(),
-            s.knots[1].len(),
-            s.controls.as_ptr(),
-            s.controls.len(),
-            s.weights.as_ptr(),
-            s.weights.len(),
-            tolerance,
-            collapsed.as_mut_ptr(),
-            collapsed.len(),
-            edges.as_mut_ptr(),
-            edges.len(),
-        )
-    }
+    on!(
+        placing_nurbs_singular,
+        s,
+        tolerance,
+        collapsed.as_mut_ptr(),
+        collapsed.len(),
+        edges.as_mut_ptr(),
+        edges.len(),
+    )
 }
 
 /// The coordinates of a mark in a plane's frame (origin, axis of u, axis of v): two numbers to
