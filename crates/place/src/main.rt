@@ -79,8 +79,11 @@ fn show(out: &[u8; job::MOST_PRINTED], n: usize)
     write(out, n);
 }
 
+// A program has no exit status of its own to give: that a printout is not whole is told on standard error.
 fn write(out: &[u8], n: usize)
     requires { ⌜ n ≤ length (now out) ⌝ }
 {
-    io::write_all(STDOUT_FILENO, &out[..n]);
+    if !io::write_all(STDOUT_FILENO, &out[..n]) {
+        os::fail(b"the printout is not whole");
+    }
 }
