@@ -25,7 +25,8 @@ struct Entry {
     pub second: f64,
 }
 
-struct Place {
+// Where the functions start, if they are found.
+pub struct Place {
     pub found: bool,
     pub start: usize,
 }
@@ -139,7 +140,7 @@ fn triangle(knots: &[f64], start: usize, p: usize, u: f64, rows: &mut [[f64; 18]
 }
 
 // The rows filled for a parameter, and where their functions start.
-fn tabulate(
+pub fn tabulate(
     knots: &[f64],
     degree: usize,
     controls: usize,

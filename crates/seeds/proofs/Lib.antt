@@ -1,2 +1,3 @@
 pub mod AxisSteps
 pub mod Places
+pub mod TableSteps

@@ -7,12 +7,16 @@ use native.Mathlib.Omega.{arith}
 use native.Mathlib.Numerals.{add-one}
 use lib.ListN.{length, getD, set, take, drop, length-append, length-map, drop-of-length-le}
 use lib.Seq.{take-suc-set, drop-set-lt, drop-cons, take-set-lt, take-take, take-all, take-append-le, length-take-le, getD-take}
-use lib.Ieee.{Float, nan, le, eq}
+use lib.Dec.{T}
+use lib.Ieee.{Float, nan, binary64, fits, lt, le, eq}
+use Rattle.float64.specs.Operators.{0·}
+use Rattle.float64.specs.Functions.{root}
 use Rattle.seeds.specs.declared.Start.{Start}
 use Rattle.seeds.specs.declared.Starts.{Starts}
 use Rattle.seeds.specs.Grid.{startAt}
 use Rattle.seeds.specs.StartLaws.{full-stays}
-use Rattle.seeds.specs.Insert.{held, Rising, placeIn, spliced, insertUnique, kept}
+use Rattle.seeds.specs.Insert.{held, Rising, Limits, placeIn, spliced, insertUnique, kept}
+use Rattle.seeds.specs.LimitLaws.{limit-at}
 
 -- what a list answers past its end
 abbrev pub none : Start
@@ -126,12 +130,13 @@ module _ (s : Starts) (x : Start) (i : ℕ) (n : length (held s) ≡ s .count) (
       rw (← e, getD-take (s .count) (s .at) i none k) (q k))) in
       ap (take 6) u
 
--- six are held, and x is no nearer than the last
-pub last-stays : (s : Starts) (x : Start) → length (held s) ≡ s .count → s .count ≡ 6 → Rising (held s) → le (getD (s .at) 5 none .distance) (x .distance) ≡ true
-    → held s ≡ kept x (held s)
-last-stays s x n c r h =
+-- six are held, and a point with that squared distance is no nearer than the last
+pub no-nearer : (s : Starts) (square : Float) {d : Float} → d ≡ root square → length (held s) ≡ s .count → s .count ≡ 6 → Rising (held s) → lt square 0· ≡ false → T (fits binary64 square) → le (getD (s .at) 5 none .distance) d ≡ true
+    → (u v : Float) → (held s ≡ kept (startAt (root square) u v) (held s)) × Limits square (held s)
+no-nearer s square e n c r b f h u v =
     let l : 5 < s .count = omega arith in
-    full-stays x none (held s) r (omega arith) (rw (getD-take (s .count) (s .at) 5 none l) h)
+    let last : le (getD (held s) 5 none .distance) (root square) ≡ true = rw (getD-take (s .count) (s .at) 5 none l, ← e) h in
+    (full-stays (startAt (root square) u v) none (held s) r (omega arith) last, limit-at none (held s) square r (omega arith) b f last)
 
 -- an array of structs, as long as what is known of it
 pub unmapped : (X Y : Type 0) (f : X → Y) (l : List X) (n : ℕ) → length (map f l) ≡ n → length l ≡ n

@@ -2,11 +2,14 @@
 use Prim.Native.Nat.{ℕ, suc}
 use mathlib.Core.Path.{_≡_}
 use mathlib.Core.Bool.{true, false, cond}
+use lib.Dec.{T}
 use mathlib.Core.List.{List, [], _∷_, _++_}
 use lib.ListN.{take, drop}
-use lib.Ieee.{Float, le, eq, isNan}
+use lib.Ieee.{Float, binary64, fits, le, eq, isNan}
+use Rattle.float64.specs.Functions.{root}
 use Rattle.seeds.specs.declared.Start.{Start}
 use Rattle.seeds.specs.declared.Starts.{Starts}
+use Rattle.seeds.specs.Grid.{startAt}
 
 abbrev pub held : Starts → List Start
 held s = take (s .count) (s .at)
@@ -38,3 +41,7 @@ placeIn d (q ∷ qs) = cond (le d (q .distance)) 0 (suc (placeIn d qs))
 -- p after the first i
 abbrev pub spliced : ℕ → Start → List Start → List Start
 spliced i p ss = take i ss ++ p ∷ drop i ss
+
+-- a point whose squared distance is not below the limit changes nothing of what is kept
+abbrev pub Limits : Float → List Start → Type 0
+Limits limit ss = (d x y : Float) → T (fits binary64 d) → le limit d ≡ true → ss ≡ kept (startAt (root d) x y) ss

@@ -3,6 +3,8 @@ pub mod AxisLaws
 pub mod Grid
 pub mod Insert
 pub mod StartLaws
+pub mod LimitLaws
+pub mod Table
 pub mod Walk
 pub mod WalkLaws
 pub mod Finite

@@ -3,19 +3,23 @@ use crate::Start;
 use crate::Starts;
 use crate::Values;
 use crate::Walked;
-use crate::insertion::insert;
+use crate::insertion::keep;
+use crate::table::first_of;
+use crate::table::jet_at;
+use crate::table::tabulate;
+use newton::point_of;
 use patch::Evaluated;
 use patch::Jet;
 use surface::Shape;
-use surface::surface_jet;
 use vector3::Vector3;
-use vector3::distance;
+use vector3::dot;
+use vector3::sub;
 ghost use mathlib.Core.Path.{_≡_};
 ghost use Prim.Native.Nat.{_≤_};
 ghost use Rattle.vector3.specs.Laws.{Finite};
 ghost use Rattle.surface.specs.Surface.{surface, refusalOfSurface, evaluateBy};
-ghost use Rattle.newton.specs.Run.{fromMark};
-ghost use Rattle.seeds.specs.Grid.{startAt, survey};
+ghost use Rattle.seeds.specs.Grid.{survey};
+ghost use Rattle.seeds.specs.LimitLaws.{squareOf};
 ghost use Rattle.seeds.specs.Walk.{listed, outcomeOf, spend};
 
 fn no_starts() -> Starts
@@ -30,19 +34,12 @@ fn no_starts() -> Starts
     Starts { at, count: 0 }
 }
 
-fn start_at(mark: Vector3, jet: Jet, u: f64, v: f64) -> Start
-    ensures { λ r. ⌜ r ≡ startAt (fromMark mark jet) u v ⌝ }
+// The square of a surface point's distance.
+fn square_of(mark: Vector3, jet: Jet) -> f64
+    ensures { λ r. ⌜ r ≡ squareOf mark jet ⌝ }
 {
-    let point = Vector3 {
-        x: jet.x,
-        y: jet.y,
-        z: jet.z,
-    };
-    Start {
-        distance: distance(point, mark),
-        u,
-        v,
-    }
+    let away = sub(point_of(jet), mark);
+    dot(away, away)
 }
 
 // Each charge comes before its evaluation.
@@ -65,24 +62,49 @@ pub fn walk(
     let v_at = vs.at;
     let rows = us.count;
     let columns = vs.count;
+    let blank = [[0.0f64; 18]; 3];
+    let mut table = [blank; 193];
+    let mut firsts = [0usize; 193];
+    tabulate(kv, shape.v, &v_at, columns, &mut table, &mut firsts);
+    let mut net = [0.0f64; 289];
     let mut refusal: u64 = 0;
     let mut taken: u64 = 0;
     let mut starts = no_starts();
+    let mut limit = 0.0 / 0.0;
     'grid: for i in 0..rows {
         let u = u_at[i];
+        let mut functions = [[0.0f64; 18]; 3];
+        let row = first_of(ku, shape.u, u, &mut functions);
+        let mut held: usize = 0;
         for j in 0..columns {
             if taken == budget {
                 refusal = 8;
                 break 'grid;
             }
             taken += 1;
-            let v = v_at[j];
-            let Evaluated::Found(jet) = surface_jet(shape, ku, kv, controls, weights, scale, u, v)
-            else {
+            let column = firsts[j];
+            let Evaluated::Found(jet) = jet_at(
+                shape,
+                controls,
+                weights,
+                scale,
+                &functions,
+                row,
+                &table[j],
+                column,
+                held,
+                &mut net,
+            ) else {
                 refusal = 9;
                 break 'grid;
             };
-            starts = insert(starts, start_at(mark, jet, u, v));
+            held = column;
+            let square = square_of(mark, jet);
+            if !(limit <= square) {
+                let nearest = keep(starts, square, u, v_at[j]);
+                starts = nearest.starts;
+                limit = nearest.limit;
+            }
         }
     }
     Walked {

@@ -1,10 +1,18 @@
 // The starts as the grid is walked: six structs by value, sorted by insertion; equal distances are not taken in.
+use crate::Nearest;
 use crate::Start;
 use crate::Starts;
+use float64::root;
 ghost use mathlib.Core.Path.{_≡_};
+ghost use mathlib.Core.Bool.{false};
+ghost use lib.Dec.{T};
 ghost use Prim.Native.Nat.{_≤_};
 ghost use lib.ListN.{take};
-ghost use Rattle.seeds.specs.Insert.{held, Rising, kept, placeIn, spliced};
+ghost use lib.Ieee.{binary64, fits, lt};
+ghost use Rattle.float64.specs.Operators.{0·};
+ghost use Rattle.float64.specs.Functions.{root};
+ghost use Rattle.seeds.specs.Grid.{startAt};
+ghost use Rattle.seeds.specs.Insert.{held, Rising, Limits, kept, placeIn, spliced};
 
 // The first index whose distance is not below d.
 fn place(at: [Start; 6], count: usize, d: f64) -> usize
@@ -59,16 +67,24 @@ fn enter(s: Starts, x: Start) -> Starts
     splice(at, count, i, x)
 }
 
-// Most points of a grid are no nearer than the last of six, and change nothing.
-pub fn insert(s: Starts, x: Start) -> Starts
-    requires { ⌜ (s .count ≤ 6) × Rising (held s) ⌝ }
-    ensures { λ r. ⌜ (held r ≡ kept x (held s)) × (r .count ≤ 6) ⌝ }
+// The point at u and v put in, by the square of its distance. One that is no nearer than the last of six changes nothing, and no more do those from there on.
+pub(crate) fn keep(s: Starts, square: f64, u: f64, v: f64) -> Nearest
+    requires { ⌜ (s .count ≤ 6) × Rising (held s) × (lt square 0· ≡ false) × T (fits binary64 square) ⌝ }
+    ensures { λ r. ⌜ (held (r .starts) ≡ kept (startAt (root square) u v) (held s)) × (r .starts .count ≤ 6) × Limits (r .limit) (held (r .starts)) ⌝ }
 {
+    let distance = root(square);
     if s.count == 6 {
         let last = s.at[5];
-        if last.distance <= x.distance {
-            return s;
+        if last.distance <= distance {
+            return Nearest {
+                starts: s,
+                limit: square,
+            };
         }
     }
-    enter(s, x)
+    let starts = enter(s, Start { distance, u, v });
+    Nearest {
+        starts,
+        limit: 0.0 / 0.0,
+    }
 }

@@ -2,6 +2,7 @@
 mod axis;
 mod grid;
 mod insertion;
+mod table;
 
 pub use axis::axis_values;
 pub use grid::walk;
@@ -28,6 +29,12 @@ pub struct Start {
 pub struct Starts {
     pub at: [Start; 6],
     pub count: usize,
+}
+
+// What is kept of the points seen so far. Points whose squared distance is not below the limit change nothing of it; a NaN is no limit.
+pub struct Nearest {
+    pub starts: Starts,
+    pub limit: f64,
 }
 
 // A walk of the grid: every point was evaluated where refusal is 0; an evaluation refused where it is 9; no unit was left where it is 8.

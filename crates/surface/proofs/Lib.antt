@@ -1,3 +1,4 @@
 pub mod CheckSteps
 pub mod SumSteps
+pub mod NetSteps
 pub mod EvaluateSteps

@@ -1,4 +1,4 @@
--- The loops of an evaluation, each a fold of so many turns, and what of a surface they read. Assumes nothing.
+-- The loops of an evaluation, each a fold of so many turns, and what of a surface the largest weight reads. Assumes nothing.
 use mathlib.Core.Path.{_≡_, refl, sym, ap, _∙_}
 use mathlib.Core.List.{List, [], _∷_}
 use Prim.Native.Nat.{ℕ, zero, suc, _+_, _-_, _*_, _≤_, _<_}
@@ -15,7 +15,7 @@ use Rattle.basis.specs.Basis.{Three, three, threes}
 use Rattle.patch.specs.declared.Sums.{Sums}
 use Rattle.patch.specs.Patch.{with}
 use Rattle.surface.specs.Surface.{Surface, weightAt, pointAt, heaviestAlong, heaviest, along, over}
-use Rattle.surface.specs.Lent.{lent, arrays, counted, Within}
+use Rattle.surface.specs.Lent.{lent, counted, Within}
 
 -- `fold k i` makes k turns, from number i on
 pub record Fold {T : Type 0} (turn : ℕ → T → T) (fold : ℕ → ℕ → T → T) : Type 0 where
@@ -38,7 +38,7 @@ module _ {T : Type 0} {turn : ℕ → T → T} {fold : ℕ → ℕ → T → T} 
 pub row-inside : {i rows j columns n size : ℕ} (k : ℕ) → Within i rows j columns n size → k < rows → (i + k) * n + j + columns ≤ size
 row-inside {i} {rows} {j} {columns} {n} k w h = omega (arith, suc-mul (i + k) n, mul-le-mul-right {m = suc (i + k)} {n = i + rows} n (omega arith))
 
-row-next : (i j n c : ℕ) → (i + suc j) * n + c ≡ (i + j) * n + c + n
+pub row-next : (i j n c : ℕ) → (i + suc j) * n + c ≡ (i + j) * n + c + n
 row-next i j n c = omega (arith, suc-mul (i + j) n)
 
 -- ---- what is read of a surface, and of the functions where only weights count
@@ -57,28 +57,12 @@ module _ (s : Surface) (m : Float) where
       let n = s .shape .v .controls in
       heaviest-lent cs bs (i + n) _ ∙ ap (heaviest (lent [] (s .weights) n) m (counted (length cs)) (counted (length bs)) (i + n)) (heaviest-along-lent n bs i w)
 
-  module _ (k : Float) where
-    along-lent : (n : ℕ) (a : Three) (bs : List Three) (i : ℕ) (t : Sums) → along s m k a bs i t ≡ along (lent (s .controls) (s .weights) n) m k a bs i t
-    unfolding along
-    along-lent n a [] i t = refl
-    along-lent n a (b ∷ bs) i t = along-lent n a bs (suc i) _
-
-    pub over-lent : (cs bs : List Three) (i : ℕ) (t : Sums) → over s m k cs bs i t ≡ over (lent (s .controls) (s .weights) (s .shape .v .controls)) m k cs bs i t
-    unfolding over
-    over-lent [] bs i t = refl
-    over-lent (a ∷ cs) bs i t =
-        let n = s .shape .v .controls in
-        over-lent cs bs (i + n) _ ∙ ap (over (lent (s .controls) (s .weights) n) m k cs bs (i + n)) (along-lent n a bs i t)
-
-abbrev threeAt : Basis → ℕ → Three
-threeAt b j = three (getD (b .values) j nan) (getD (b .firsts) j nan) (getD (b .seconds) j nan)
-
-threes-arrays : (b : Basis) (k j : ℕ) → threes b k j ≡ threes (arrays (b .values) (b .firsts) (b .seconds)) k j
+pub length-threes : (b : Basis) (k j : ℕ) → length (threes b k j) ≡ k
 unfolding threes
-threes-arrays b zero j = refl
-threes-arrays b (suc k) j = ap (λ (ts : List Three). threeAt b j ∷ ts) (threes-arrays b k (suc j))
+length-threes b zero j = refl
+length-threes b (suc k) j = ap suc (length-threes b k (suc j))
 
--- ---- the four loops
+-- ---- the loops over weights
 
 pub heaviest-along-fold : (s : Surface) (m : Float) (at : ℕ) → Fold (λ j w. max w (weightAt s m (at + j))) (λ k j w. heaviestAlong s m (counted k) (at + j) w)
 unfolding heaviestAlong
@@ -97,24 +81,5 @@ heaviest-fold ws m n row columns column = record {
       rw (row-next row i n column) (ap (heaviest (lent [] ws n) m (counted k) (counted columns) (at + n)) (rw length-replicate at e));
 }
 
-pub along-fold : (s : Surface) (m k : Float) (a : Three) (b : Basis) (at : ℕ)
-    → Fold (λ j t. with a (threeAt b j) (weightAt s m (at + j) ⊘ k) (pointAt s m (at + j)) t) (λ n j t. along s m k a (threes b n j) (at + j) t)
-unfolding along threes
-along-fold s m k a b at = record { none = λ j t. refl; more = λ n j t. rw add-suc }
-
 pub with-point : (a b : Three) (w : Float) {p q : Vector3} (t : Sums) {x : Sums} → x ≡ with a b w p t → p ≡ q → x ≡ with a b w q t
 with-point a b w t e h = rw h at e
-
-pub over-fold : (cs ws : List Float) (m k : Float) (n row : ℕ) (u : Basis) (column columns : ℕ) (v : Basis)
-    → Fold
-    (λ i t. along (lent cs ws 0) m k (threeAt u i) (threes (arrays (v .values) (v .firsts) (v .seconds)) columns 0) ((row + i) * n + column) t)
-    (λ r i t. over (lent cs ws n) m k (threes u r i) (threes v columns 0) ((row + i) * n + column) t)
-unfolding over threes
-over-fold cs ws m k n row u column columns v = record {
-  none = λ i t. refl;
-  more = λ r i t.
-      let at = (row + i) * n + column in
-      let e = along-lent (lent cs ws n) m k 0 (threeAt u i) (threes v columns 0) at t in
-      let f = ap (λ (bs : List Three). along (lent cs ws 0) m k (threeAt u i) bs at t) (threes-arrays v columns 0) in
-      rw (row-next row i n column) (ap (over (lent cs ws n) m k (threes u r (suc i)) (threes v columns 0) (at + n)) (e ∙ f));
-}

@@ -27,10 +27,6 @@ bare n = record { degree = 0; controls = n; periodic = false }
 abbrev pub lent : List Float → List Float → ℕ → Surface
 lent cs ws n = surface (record { u = bare 0; v = bare n }) [] [] cs ws
 
--- a basis of which these arrays are lent
-abbrev pub arrays : List Float → List Float → List Float → Basis
-arrays xs ys zs = record { found = true; start = 0; values = xs; firsts = ys; seconds = zs }
-
 -- n functions of which only the count is read
 abbrev pub counted : ℕ → List Three
 counted n = replicate n (three nan nan nan)
@@ -41,15 +37,3 @@ pub record Within (i rows j columns n size : ℕ) : Type 0 where
   pub few : size ≤ 100000
   pub down : (i + rows) * n ≤ size
   pub across : j + columns ≤ n
-
--- as many controls and weights as the shape says
-pub record Sized (shape : Shape) (cs ws : List Float) : Type 0 where
-  pub few : length ws ≤ 100000
-  pub weights : length ws ≡ shape .u .controls * shape .v .controls
-  pub controls : length cs ≡ 3 * length ws
-
--- a basis of an axis with these counts: where it is found it touches controls only
-pub record Touches (n : Counts) (b : Basis) : Type 0 where
-  pub degree-most : n .degree ≤ 16
-  pub few : n .controls ≤ 100000
-  pub below : b .found ≡ true → b .start + n .degree < n .controls

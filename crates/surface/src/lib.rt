@@ -3,13 +3,16 @@
 mod checks;
 mod jets;
 mod periodic;
+mod sums;
 
 pub use checks::check;
-pub use jets::blend;
 pub use jets::evaluate;
+pub use jets::sample;
 pub use jets::surface_jet;
 use patch::Jet;
 pub use periodic::wrap;
+pub use sums::blend;
+pub use sums::weigh;
 
 // One axis. A periodic one wraps with its knot domain for a period.
 pub struct Counts {

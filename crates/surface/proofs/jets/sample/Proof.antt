@@ -9,22 +9,22 @@ use Rattle.surface.proofs.jets.sample.Statement.{statement}
 use Rattle.surface.proofs.jets.sample.Tie as tie
 
 mul-wrap : tie.Need-mul-wrap
-mul-wrap c = let p = accepted _ (c .before .pre) in omega arith
+mul-wrap c = let p = accepted _ (c .before .pre .0) in omega arith
 
 shared-slice-read-wrap : tie.Need-shared-slice-read-wrap
-shared-slice-read-wrap c = let p = accepted _ (c .before .before .pre) in omega arith
+shared-slice-read-wrap c = let p = accepted _ (c .before .before .pre .0) in omega arith
 
 mul-wrap-2 : tie.Need-mul-wrap-2
-mul-wrap-2 c = let p = accepted _ (c .before .before .pre) in omega arith
+mul-wrap-2 c = let p = accepted _ (c .before .before .pre .0) in omega arith
 
 shared-slice-read-wrap-2 : tie.Need-shared-slice-read-wrap-2
-shared-slice-read-wrap-2 c = let p = accepted _ (c .before .before .before .pre) in omega arith
+shared-slice-read-wrap-2 c = let p = accepted _ (c .before .before .before .pre .0) in omega arith
 
-basis-on-side-requires : tie.Need-basis-on-side-requires
-basis-on-side-requires c κs = c .before .before .before .before .pre
+tabulate-requires : tie.Need-tabulate-requires
+tabulate-requires c κs = c .before .before .before .before .before .pre
 
 returns : tie.Need-returns
-returns c = c .basis-on-side .ensures ∙ ap (basisAt _ Right) (c .before .wrap .ensures)
+returns c = c .tabulate .ensures ∙ ap (basisAt _ Right) (c .before .before .wrap .ensures)
 
 pub sample-spec : {M : Type 1} → statement M
 sample-spec =
@@ -35,5 +35,5 @@ sample-spec =
     mul-wrap-2
     shared-slice-read-wrap-2
     (λ c κs. search needs)
-    basis-on-side-requires
+    tabulate-requires
     returns)

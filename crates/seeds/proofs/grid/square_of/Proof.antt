@@ -1,0 +1,23 @@
+-- What `dot` says of the vector from the mark.
+use borrow.Author.Needs.{needs}
+use Rattle.seeds.proofs.grid.square_of.Statement.{statement}
+use Rattle.seeds.proofs.grid.square_of.Tie as tie
+
+-- src/grid.rt:41:20
+point-of-requires : tie.Need-point-of-requires
+point-of-requires c κs = search needs
+
+-- src/grid.rt:41:9
+sub-requires : tie.Need-sub-requires
+sub-requires c κs = search needs
+
+-- src/grid.rt:42:5
+dot-requires : tie.Need-dot-requires
+dot-requires c κs = search needs
+
+-- src/grid.rt:38:1
+returns : tie.Need-returns
+returns c = simp (c .dot .ensures, c .before .sub .ensures, c .before .before .point-of .ensures)
+
+pub square-of-spec : {M : Type 1} → statement M
+square-of-spec = tie.close (tie.spec point-of-requires sub-requires dot-requires returns)

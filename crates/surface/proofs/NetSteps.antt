@@ -1,0 +1,200 @@
+-- What is written to a net of weights, and the sums by what stands in it. Assumes nothing.
+use mathlib.Core.Path.{_≡_, refl, sym, ap, _∙_}
+use mathlib.Core.List.{List, [], _∷_, _++_, append-assoc, append-nil}
+use Prim.Native.Nat.{ℕ, zero, suc, _+_, _-_, _*_, _≤_, _<_}
+use native.Mathlib.Nat.{add-suc, add-zero, suc-mul, mul-le-mul-right, mul-le-mul-left}
+use native.Mathlib.Numerals.{add-one}
+use native.Mathlib.Omega.{arith}
+use lib.ListN.{length, getD, set, take, drop, take-append-drop, drop-of-length-le}
+use lib.Seq.{take-suc-set, take-set-lt, drop-set-lt, drop-cons, drop-drop, getD-drop, getD-take, drop-at, length-take-le}
+use lib.Ieee.{Float, nan}
+use Rattle.float64.specs.Operators.{_⊘_, 0·}
+use Rattle.vector3.specs.declared.Vector3.{Vector3}
+use Rattle.basis.specs.declared.Basis.{Basis}
+use Rattle.basis.specs.Basis.{Three, three, threes}
+use Rattle.basis.specs.Rows.{Rows}
+use Rattle.patch.specs.declared.Sums.{Sums}
+use Rattle.patch.specs.declared.Evaluated.{Evaluated}
+use Rattle.patch.specs.Patch.{with, emptySums, rational}
+use Rattle.surface.specs.declared.Shape.{Shape}
+use Rattle.surface.specs.Surface.{Surface, surface, pointAt, heaviest, along, over, blended}
+use Rattle.surface.specs.Lent.{lent, counted}
+use Rattle.surface.specs.Net.{scaledAlong, scaledOver, divided, alongBy, overBy, functions, sampleFrom, Patch, Weighed}
+use Rattle.surface.proofs.SumSteps.{Fold, row-next, length-threes, heaviest-lent}
+
+-- ---- writing: what stands there, and what is still to come, is the whole
+pub put : (xs : List Float) (n : ℕ) {w rest next : List Float} {x : Float} → w ≡ take n xs ++ rest → rest ≡ x ∷ next → n < length xs → w ≡ take (n + 1) (set xs n x) ++ next
+put xs n {next = next} {x = x} e f h = e ∙ rw (f, add-one n, take-suc-set xs n x h, append-assoc (take n xs) (x ∷ []) next)
+
+module _ (ws : List Float) (m : Float) where
+  module _ (w net : List Float) (from k j i : ℕ) (e : w ≡ take (from + j) net ++ scaledAlong ws m (k - j) (i + j)) where
+    pub scaled-along-turn : j < k → from + j < length net → w ≡ take (from + (j + 1)) (set net (from + j) (getD ws (i + j) nan ⊘ m)) ++ scaledAlong ws m (k - (j + 1)) (i + (j + 1))
+    unfolding scaledAlong
+    scaled-along-turn h l =
+        let q : k - j ≡ suc (k - (j + 1)) = omega arith in
+        let p : i + (j + 1) ≡ suc (i + j) = omega arith in
+        let r : from + (j + 1) ≡ from + j + 1 = omega arith in
+        rw r (put net (from + j) e (rw (q, p)) l)
+
+    pub scaled-along-over : k ≤ j → j ≤ k → take (from + k) net ≡ w
+    unfolding scaledAlong
+    scaled-along-over h l =
+        let q : k - j ≡ 0 = omega arith in
+        let p : j ≡ k = omega arith in
+        sym (e ∙ rw (q, ← p, append-nil (take (from + j) net)))
+
+  length-scaled-along : (k i : ℕ) → length (scaledAlong ws m k i) ≡ k
+  unfolding scaledAlong
+  length-scaled-along zero i = refl
+  length-scaled-along (suc k) i = ap suc (length-scaled-along k (suc i))
+
+  module _ (n k : ℕ) (w : List Float) (row rows column : ℕ) (i : ℕ) (net : List Float) where
+    abbrev at : ℕ → ℕ
+    at i = (row + i) * n + column
+
+    module _ (e : w ≡ take (i * k) net ++ scaledOver ws m n (rows - i) k (at i)) where
+      pub scaled-over-more : i < rows → (net' : List Float) → take (i * k + k) net' ≡ take (i * k) net ++ scaledAlong ws m k (at i)
+          → w ≡ take ((i + 1) * k) net' ++ scaledOver ws m n (rows - (i + 1)) k (at (i + 1))
+      unfolding scaledOver
+      scaled-over-more h net' f =
+          let q : rows - i ≡ suc (rows - (i + 1)) = omega arith in
+          let p : (i + 1) * k ≡ i * k + k = omega (arith, suc-mul i k) in
+          let r : at (i + 1) ≡ at i + n = ap at (add-one i) ∙ row-next row i n column in
+          e ∙ rw (q, p, r, f, append-assoc (take (i * k) net) (scaledAlong ws m k (at i)) _)
+
+      pub scaled-over-none : rows ≤ i → i ≤ rows → take (rows * k) net ≡ w
+      unfolding scaledOver
+      scaled-over-none h l =
+          let q : rows - i ≡ 0 = omega arith in
+          let p : i ≡ rows = omega arith in
+          sym (e ∙ rw (q, ← p, append-nil (take (i * k) net)))
+
+-- a row of the patch has its place in the net
+pub row-room : (i : ℕ) {rows columns : ℕ} → i < rows → rows ≤ 17 → columns ≤ 17 → i * columns + columns ≤ 289
+row-room i {rows} {columns} h r c = omega (arith, suc-mul i columns, mul-le-mul-right {m = suc i} {n = 17} columns (omega arith), mul-le-mul-left {m = columns} {n = 17} 17 c)
+
+pub patch-room : {shape : Shape} {row column : ℕ} → Patch shape row column → (shape .u .degree + 1) * (shape .v .degree + 1) ≤ 289
+patch-room {shape} p =
+    let c = shape .v .degree + 1 in
+    omega (arith, suc-mul (shape .u .degree) c, ap (λ (n : ℕ). n * c) (add-one (shape .u .degree)), row-room (shape .u .degree) {rows = shape .u .degree + 1} {columns = c} (omega arith) (omega (arith, p .rows-most)) (omega (arith, p .columns-most)))
+
+module _ (k : Float) (n : ℕ) (w xs : List Float) (i : ℕ) (e : w ≡ take i xs ++ divided k (drop i (take n xs))) where
+  pub divided-more : i < n → n ≤ length xs → w ≡ take (i + 1) (set xs i (getD xs i nan ⊘ k)) ++ divided k (drop (i + 1) (take n (set xs i (getD xs i nan ⊘ k))))
+  unfolding divided
+  divided-more h l =
+      let y = getD xs i nan ⊘ k in
+      let q : i < length (take n xs) = omega (arith, length-take-le n xs l) in
+      let f : divided k (drop i (take n xs)) ≡ y ∷ divided k (drop (i + 1) (take n xs)) = rw (drop-cons (take n xs) i nan q, getD-take n xs i nan h, add-one i) in
+      let g : drop (i + 1) (take n (set xs i y)) ≡ drop (i + 1) (take n xs) = ap (drop (i + 1)) (take-set-lt n xs i y h) ∙ drop-set-lt (i + 1) (take n xs) i y (omega arith) in
+      put xs i e f (omega arith) ∙ rw g
+
+  pub divided-none : n ≤ i → i ≤ n → n ≤ length xs → take n xs ≡ w
+  unfolding divided
+  divided-none h l m =
+      let q : i ≡ n = omega arith in
+      let f : drop n (take n xs) ≡ [] = drop-of-length-le (take n xs) {i = n} (omega (arith, length-take-le n xs m)) in
+      sym (e ∙ rw (q, f, append-nil (take n xs)))
+
+pub weighed : (shape : Shape) (ws : List Float) (m : Float) (row column : ℕ) (scaled net : List Float) (k : Float)
+    → (let rows = shape .u .degree + 1 in
+    let columns = shape .v .degree + 1 in
+    let n = shape .v .controls in
+    let at = row * n + column in
+    k ≡ heaviest (lent [] ws n) m (counted rows) (counted columns) at 0· → take (rows * columns) scaled ≡ scaledOver ws m n rows columns at
+    → take (rows * columns) net ≡ divided k (take (rows * columns) scaled) → length net ≡ 289 → Weighed shape ws m row column net)
+weighed shape ws m row column scaled net k hk hs hd l = record { whole = l; weights = rw (hk, hs) at hd }
+
+-- ---- the sums by what stands in the net
+
+abbrev threeAt : Basis → ℕ → Three
+threeAt b j = three (getD (b .values) j nan) (getD (b .firsts) j nan) (getD (b .seconds) j nan)
+
+abbrev pointOf : List Float → ℕ → Vector3
+pointOf cs i = pointAt (lent cs [] 0) 0· i
+
+pub along-by-fold : (cs net : List Float) (from : ℕ) (a : Three) (b : Basis) (at : ℕ)
+    → Fold (λ j t. with a (threeAt b j) (getD net (from + j) nan) (pointOf cs (at + j)) t) (λ n j t. alongBy cs a (threes b n j) (drop (from + j) net) (at + j) t)
+unfolding alongBy threes
+along-by-fold cs net from a b at = record {
+  none = λ j t. refl;
+  more = λ n j t.
+      let rest = drop-drop 1 (from + j) net ∙ ap (λ (k : ℕ). drop k net) (let q : from + j + 1 ≡ from + suc j = omega arith in q) in
+      let first = getD-drop (from + j) net 0 nan ∙ ap (λ (k : ℕ). getD net k nan) (add-zero (from + j)) in
+      ap (λ (xs : List Float). alongBy cs a (threes b n (suc j)) xs (suc (at + j)) (with a (threeAt b j) (getD (drop (from + j) net) 0 nan) (pointOf cs (at + j)) t)) rest
+      ∙ ap (λ (y : Float). alongBy cs a (threes b n (suc j)) (drop (from + suc j) net) (suc (at + j)) (with a (threeAt b j) y (pointOf cs (at + j)) t)) first
+      ∙ rw (add-suc at j);
+}
+
+over-by-cons : (cs : List Float) (n : ℕ) (a : Three) (us bs : List Three) (xs : List Float) (i : ℕ) (t : Sums) {k : ℕ} → length bs ≡ k
+    → overBy cs n (a ∷ us) bs xs i t ≡ overBy cs n us bs (drop k xs) (i + n) (alongBy cs a bs xs i t)
+unfolding overBy
+over-by-cons cs n a us bs xs i t e = rw e
+
+pub over-by-fold : (cs net : List Float) (n row : ℕ) (u : Basis) (column columns : ℕ) (v : Basis)
+    → Fold
+    (λ i t. alongBy cs (threeAt u i) (threes v columns 0) (drop (i * columns) net) ((row + i) * n + column) t)
+    (λ r i t. overBy cs n (threes u r i) (threes v columns 0) (drop (i * columns) net) ((row + i) * n + column) t)
+unfolding overBy threes
+over-by-fold cs net n row u column columns v = record {
+  none = λ i t. refl;
+  more = λ r i t.
+      let at = (row + i) * n + column in
+      let bs = threes v columns 0 in
+      let next = alongBy cs (threeAt u i) bs (drop (i * columns) net) at t in
+      let rest = drop-drop columns (i * columns) net ∙ ap (λ (k : ℕ). drop k net) (sym (suc-mul i columns)) in
+      over-by-cons cs n (threeAt u i) (threes u r (suc i)) bs (drop (i * columns) net) at t (length-threes v columns 0)
+      ∙ ap (λ (xs : List Float). overBy cs n (threes u r (suc i)) bs xs (at + n) next) rest
+      ∙ ap (λ (k : ℕ). overBy cs n (threes u r (suc i)) bs (drop (suc i * columns) net) k next) (sym (row-next row i n column));
+}
+
+-- ---- the same sums by the definition
+
+module _ (s : Surface) (m k : Float) where
+  abbrev ws : List Float
+  ws = s .weights
+
+  along-by : (a : Three) (bs : List Three) (rest : List Float) (i : ℕ) (t : Sums) → alongBy (s .controls) a bs (divided k (scaledAlong ws m (length bs) i) ++ rest) i t ≡ along s m k a bs i t
+  unfolding alongBy along divided scaledAlong
+  along-by a [] rest i t = refl
+  along-by a (b ∷ bs) rest i t = along-by a bs rest (suc i) _
+
+  divided-append : (xs ys : List Float) → divided k (xs ++ ys) ≡ divided k xs ++ divided k ys
+  unfolding divided
+  divided-append [] ys = refl
+  divided-append (x ∷ xs) ys = ap (λ (zs : List Float). (x ⊘ k) ∷ zs) (divided-append xs ys)
+
+  length-divided : (xs : List Float) → length (divided k xs) ≡ length xs
+  unfolding divided
+  length-divided [] = refl
+  length-divided (x ∷ xs) = ap suc (length-divided xs)
+
+  over-by : (cs bs : List Three) (rest : List Float) (i : ℕ) (t : Sums)
+      → overBy (s .controls) (s .shape .v .controls) cs bs (divided k (scaledOver ws m (s .shape .v .controls) (length cs) (length bs) i) ++ rest) i t ≡ over s m k cs bs i t
+  unfolding overBy over scaledOver
+  over-by [] bs rest i t = refl
+  over-by (a ∷ cs) bs rest i t =
+      let n = s .shape .v .controls in
+      let row = scaledAlong ws m (length bs) i in
+      let below = scaledOver ws m n (length cs) (length bs) (i + n) in
+      let split : divided k (row ++ below) ++ rest ≡ divided k row ++ (divided k below ++ rest) = rw (divided-append row below, append-assoc (divided k row) (divided k below) rest) in
+      let next : drop (length bs) (divided k row ++ (divided k below ++ rest)) ≡ divided k below ++ rest = drop-at (divided k row) _ (length bs) (length-divided row ∙ length-scaled-along ws m (length bs) i) in
+      rw (split, next, along-by a bs (divided k below ++ rest) i t) (over-by cs bs rest (i + n) (along s m k a bs i t))
+
+module _ (shape : Shape) (ku kv cs ws : List Float) (m : Float) (row column : ℕ) (net : List Float) (w : Weighed shape ws m row column net) (u v : Rows) where
+  pub blended-by : (t : Sums)
+      → t ≡ overBy cs (shape .v .controls) (threes (functions u) (shape .u .degree + 1) 0) (threes (functions v) (shape .v .degree + 1) 0) net (row * shape .v .controls + column) emptySums
+      → (r : Evaluated) → r ≡ rational t
+      → r ≡ blended (surface shape ku kv cs ws) m (sampleFrom (shape .u .degree) row u) (sampleFrom (shape .v .degree) column v)
+  unfolding blended
+  blended-by t et r er =
+      let s = surface shape ku kv cs ws in
+      let us = threes (functions u) (shape .u .degree + 1) 0 in
+      let vs = threes (functions v) (shape .v .degree + 1) 0 in
+      let at = row * shape .v .controls + column in
+      let k = heaviest s m us vs at 0· in
+      let size = (shape .u .degree + 1) * (shape .v .degree + 1) in
+      let hk : k ≡ heaviest (lent [] ws (shape .v .controls)) m (counted (shape .u .degree + 1)) (counted (shape .v .degree + 1)) at 0· =
+      heaviest-lent s m us vs at 0· ∙ rw (length-threes (functions u) (shape .u .degree + 1) 0, length-threes (functions v) (shape .v .degree + 1) 0) in
+      let hn : net ≡ divided k (scaledOver ws m (shape .v .controls) (length us) (length vs) at) ++ drop size net =
+      sym (take-append-drop size net) ∙ rw (w .weights, hk, length-threes (functions u) (shape .u .degree + 1) 0, length-threes (functions v) (shape .v .degree + 1) 0) in
+      er ∙ ap rational (et ∙ ap (λ (xs : List Float). overBy cs (shape .v .controls) us vs xs at emptySums) hn ∙ over-by s m k us vs (drop size net) at emptySums)

@@ -1,0 +1,104 @@
+-- A turn of the loop takes one weight more.
+use mathlib.Core.Path.{_≡_}
+use mathlib.Core.List.{[], _++_}
+use Prim.Native.Nat.{_+_, _-_, _≤_}
+use native.Mathlib.Nat.{add-zero, sub-zero}
+use native.Mathlib.Omega.{arith}
+use lib.ListN.{length, take, length-set}
+use Rattle.surface.specs.Surface.{heaviestAlong}
+use Rattle.surface.specs.Lent.{lent, counted}
+use Rattle.surface.specs.Net.{scaledAlong}
+use Rattle.surface.proofs.SumSteps.{go, stop, heaviest-along-fold}
+use Rattle.surface.proofs.NetSteps.{scaled-along-turn, scaled-along-over}
+use borrow.Author.Needs.{needs}
+use Rattle.surface.proofs.sums.scale_along.Statement.{statement}
+use Rattle.surface.proofs.sums.scale_along.Tie as tie
+
+abbrev Inv-loop : tie.InvT-loop
+Inv-loop weights scale at count w net₀ from most₀ j₀ net most j =
+    let s = lent [] weights 0 in
+    (j ≤ count)
+    × (heaviestAlong s scale (counted count) at w ≡ heaviestAlong s scale (counted (count - j)) (at + j) most)
+    × (length net ≡ 289)
+    × (take from net₀ ++ scaledAlong weights scale count at ≡ take (from + j) net ++ scaledAlong weights scale (count - j) (at + j))
+
+abbrev μ-loop : tie.MeasureT-loop
+μ-loop weights scale at count w net₀ from most₀ j₀ net most j = count - j
+
+-- src/sums.rt:37:5
+loop-holds : tie.Need-loop-holds Inv-loop μ-loop
+loop-holds c = (omega arith, simp (add-zero, sub-zero), c .before .pre .2, simp (add-zero, sub-zero))
+
+-- src/sums.rt:38:30
+add-scaled : tie.Need-add-scaled Inv-loop μ-loop
+add-scaled c = search needs
+
+-- src/sums.rt:38:22
+mul-scaled : tie.Need-mul-scaled Inv-loop μ-loop
+mul-scaled c = search needs
+
+-- src/sums.rt:38:22
+shared-slice-read-scaled : tie.Need-shared-slice-read-scaled Inv-loop μ-loop
+shared-slice-read-scaled c = search needs
+
+-- src/sums.rt:39:13
+add-net : tie.Need-add-net Inv-loop μ-loop
+add-net c = search needs
+
+-- src/sums.rt:39:9
+mul-net : tie.Need-mul-net Inv-loop μ-loop
+mul-net c = search needs
+
+-- src/sums.rt:39:9
+element-write-net : tie.Need-element-write-net Inv-loop μ-loop
+element-write-net c = search needs
+
+-- src/sums.rt:40:9
+max-requires : tie.Need-max-requires Inv-loop μ-loop
+max-requires c κs = search needs
+
+-- src/sums.rt:37:9
+add-j : tie.Need-add-j Inv-loop μ-loop
+add-j c = search needs
+
+-- src/sums.rt:37:5
+loop-less : tie.Need-loop-less Inv-loop μ-loop
+loop-less c = search needs
+
+-- src/sums.rt:37:5
+loop-again : tie.Need-loop-again Inv-loop μ-loop
+loop-again c =
+    let at = c .before .before .before in
+    let a = at .before .before .args in
+    let l = at .loop in (
+      omega arith,
+      go (heaviest-along-fold _ _ _) _ (l .j) _ _ (l .inv .1) (omega arith) _ (c .max .ensures),
+      simp length-set (l .inv .2),
+      scaled-along-turn _ _ _ (l .net) (a .from) (a .count) (l .j) (a .at) (l .inv .3) (omega arith) (omega arith),
+    )
+
+-- src/sums.rt:24:1
+returns : tie.Need-returns Inv-loop μ-loop
+returns c =
+    let l = c .before .loop in
+    let a = c .before .before .before .args in
+    (stop (heaviest-along-fold _ _ _) _ (l .j) _ _ (l .inv .1) (omega arith), scaled-along-over _ _ _ (l .net) (a .from) (a .count) (l .j) (a .at) (l .inv .3) (omega arith) (omega arith), l .inv .2)
+
+pub scale-along-spec : {M : Type 1} → statement M
+scale-along-spec =
+    tie.close
+    (tie.spec
+    Inv-loop
+    μ-loop
+    loop-holds
+    add-scaled
+    mul-scaled
+    shared-slice-read-scaled
+    add-net
+    mul-net
+    element-write-net
+    max-requires
+    add-j
+    loop-less
+    loop-again
+    returns)
