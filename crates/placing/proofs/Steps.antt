@@ -1,122 +1,43 @@
--- The cases of the calls, and what they write. Assumes nothing.
+-- The two cases of each call: an argument does not fit, or the answer is laid out. Assumes nothing.
 use mathlib.Core.Path.{_≡_, refl, sym, ap, _∙_}
-use mathlib.Core.Bool.{Bool, true, false, _&&_, and-eq-true-iff}
-use mathlib.Core.List.{List, [], _∷_}
-use Prim.Native.Nat.{ℕ, zero, suc, _-_, _≤_, _<_}
+use mathlib.Core.Bool.{Bool, true, false}
+use mathlib.Core.List.{List}
+use Prim.Native.Nat.{ℕ, _≤_}
 use native.Mathlib.Omega.{arith}
-use lib.Dec.{leb}
-use lib.ListN.{length, getD, set, length-set}
-use lib.Ieee.{Float, nan}
-use borrow.Author.Tests.{leb-true}
+use lib.ListN.{getD}
+use lib.Ieee.{Float}
 use Rattle.vector3.specs.declared.Vector3.{Vector3}
-use Rattle.patch.specs.declared.Jet.{Jet}
 use Rattle.surface.specs.declared.Shape.{Shape}
 use Rattle.surface.specs.declared.Evaluation.{Evaluation}
-use Rattle.surface.specs.declared.Evaluation.the-variants as Evaluation
 use Rattle.surface.specs.Surface.{surface, evaluated}
 use Rattle.inversion.specs.declared.Hint.{Hint}
-use Rattle.inversion.specs.declared.Hint.the-variants.{Nothing, At}
 use Rattle.inverter.specs.declared.Period.{Period}
-use Rattle.inverter.specs.declared.Period.the-variants.{Free, Every}
 use Rattle.inverter.specs.declared.Placing.{Placing}
-use Rattle.inverter.specs.declared.Placing.the-variants.{Pair, Refusal}
-use Rattle.inverter.specs.Inverter.{placed, numberOf, leftOf}
+use Rattle.inverter.specs.Inverter.{placed}
 use Rattle.inverter.specs.Preimage.{derived}
-use Rattle.placing.specs.Boundary.{Evaluates, Places, hintOf, periodOf, roomy, numbersOf, jetInto, evaluatesIf, pairInto, leftInto, placesIf}
+use Rattle.row.specs.declared.Ended.{Ended}
+use Rattle.row.specs.Row.{Rowed, rowInto, written, numberOf, indexOf, leftOf}
 use Rattle.row.specs.RowLaws.{takenOf}
-
--- ---- what is read
-
-pub no-hint : (xs : List Float) → (length xs ≡ 2 → ⊥) → Nothing ≡ hintOf xs
-unfolding hintOf
-no-hint [] h = refl
-no-hint (u ∷ []) h = refl
-no-hint (u ∷ (v ∷ [])) h = absurd (h refl)
-no-hint (u ∷ (v ∷ (x ∷ xs))) h = refl
-
-pub a-hint : (xs : List Float) → length xs ≡ 2 → At (getD xs 0 nan) (getD xs 1 nan) ≡ hintOf xs
-unfolding hintOf
-a-hint [] h = absurd (omega arith)
-a-hint (u ∷ []) h = absurd (omega arith)
-a-hint (u ∷ (v ∷ [])) h = refl
-a-hint (u ∷ (v ∷ (x ∷ xs))) h = absurd (omega arith)
-
-pub no-period : (xs : List Float) → (length xs ≡ 1 → ⊥) → Free ≡ periodOf xs
-unfolding periodOf
-no-period [] h = refl
-no-period (p ∷ []) h = absurd (h refl)
-no-period (p ∷ (x ∷ xs)) h = refl
-
-pub a-period : (xs : List Float) → length xs ≡ 1 → Every (getD xs 0 nan) ≡ periodOf xs
-unfolding periodOf
-a-period [] h = absurd (omega arith)
-a-period (p ∷ []) h = refl
-a-period (p ∷ (x ∷ xs)) h = absurd (omega arith)
-
--- ---- what fits
-
-pub both : {a b x y : Bool} → a ≡ x → b ≡ y → (a && b) ≡ (x && y)
-both {b} {x} h k = ap (λ t. t && b) h ∙ ap (λ t. x && t) k
-
-pub right : (a b : Bool) → (a && b) ≡ true → b ≡ true
-right a b h = and-eq-true-iff a b .0 h .1
-
-pub nine-fit : (xs : List Float) (a : Bool) → (a && leb 9 (length xs)) ≡ true → 9 ≤ length xs
-nine-fit xs a h = leb-true 9 (length xs) (right a (leb 9 (length xs)) h)
-
-module _ (bs : List ℕ) (xs : List Float) {b : Bool} (e : b ≡ roomy bs xs) (h : b ≡ true) where
-  pub room : (1 ≤ length bs) × (2 ≤ length xs)
-  unfolding roomy
-  room =
-      let r = and-eq-true-iff _ _ .0 (sym e ∙ h) in
-      (leb-true 1 (length bs) (r .0), leb-true 2 (length xs) (r .1))
-
-  pub first-in : 0 < length bs
-  first-in = omega (arith, room .0)
+use Rattle.edges.specs.declared.Edges.{Edges}
+use Rattle.edges.specs.Edges.{singular}
+use Rattle.lent.specs.Lent.{Evaluates, Places, Tells, jetInto, placingInto, firstOf, edgesInto}
+use Rattle.placing.specs.Boundary.{Rows, evaluatesIf, placesIf, rowsIf, tellsIf}
 
 -- ---- an evaluation
 
--- once k numbers of it are written
-abbrev pub begun : ℕ → List Float → Jet → List Float
-begun zero xs j = xs
-begun (suc k) xs j = set (begun k xs j) k (getD (numbersOf j) k nan)
-
-begun-length : (k : ℕ) (xs : List Float) (j : Jet) → length (begun k xs j) ≡ length xs
-begun-length zero xs j = refl
-begun-length (suc k) xs j = length-set (begun k xs j) k (getD (numbersOf j) k nan) ∙ begun-length k xs j
-
-pub ninth : (k : ℕ) (xs : List Float) (j : Jet) → k < 9 → 9 ≤ length xs → k < length (begun k xs j)
-ninth k xs j l h = omega (arith, begun-length k xs j)
-
--- the number that is answered, and what the lent numbers are then
-abbrev pub Jets : Evaluates → ℕ → List Float → Type 0
-Jets a number jet = (number ≡ a .number) × (jet ≡ a .jet)
-
-pub jet-refused : (xs : List Float) {e : Evaluation} {n : ℕ} → e ≡ Evaluation.Refusal n → Jets (jetInto e xs) n xs
-unfolding jetInto
-jet-refused xs h = rw h (refl, refl)
-
-pub jet-found : (xs : List Float) {e : Evaluation} {j : Jet} → 9 ≤ length xs → e ≡ Evaluation.Found j → Jets (jetInto e xs) 0 (begun 9 xs j)
-unfolding jetInto
-jet-found [] l h = absurd (omega arith)
-jet-found (a ∷ []) l h = absurd (omega arith)
-jet-found (a ∷ (b ∷ [])) l h = absurd (omega arith)
-jet-found (a ∷ (b ∷ (c ∷ []))) l h = absurd (omega arith)
-jet-found (a ∷ (b ∷ (c ∷ (d ∷ [])))) l h = absurd (omega arith)
-jet-found (a ∷ (b ∷ (c ∷ (d ∷ (e ∷ []))))) l h = absurd (omega arith)
-jet-found (a ∷ (b ∷ (c ∷ (d ∷ (e ∷ (f ∷ [])))))) l h = absurd (omega arith)
-jet-found (a ∷ (b ∷ (c ∷ (d ∷ (e ∷ (f ∷ (g ∷ []))))))) l h = absurd (omega arith)
-jet-found (a ∷ (b ∷ (c ∷ (d ∷ (e ∷ (f ∷ (g ∷ (i ∷ [])))))))) l h = absurd (omega arith)
-jet-found (a ∷ (b ∷ (c ∷ (d ∷ (e ∷ (f ∷ (g ∷ (i ∷ (k ∷ xs))))))))) l h = rw h (refl, refl)
+abbrev jets : ℕ → List Float → Evaluates
+jets number jet = record { number = number; jet = jet }
 
 module _ (found : Evaluation) (xs : List Float) {b fit : Bool} (e : b ≡ fit) where
-  pub jet-unfit : b ≡ false → Jets (evaluatesIf fit found xs) 99 xs
+  pub jet-unfit : b ≡ false → jets 99 xs ≡ evaluatesIf fit found xs
   unfolding evaluatesIf
-  jet-unfit h = rw (sym e ∙ h) (refl, refl)
+  jet-unfit h = rw (sym e ∙ h) refl
 
-  pub jet-fit : b ≡ true → {q : Evaluation} → q ≡ found → {n : ℕ} {ys : List Float} → Jets (jetInto q xs) n ys → Jets (evaluatesIf fit found xs) n ys
+  pub jet-fit : b ≡ true → {q : Evaluation} → q ≡ found → {n : ℕ} {ys : List Float} → jets n ys ≡ jetInto q xs → jets n ys ≡ evaluatesIf fit found xs
   unfolding evaluatesIf
   jet-fit h k l = rw (sym e ∙ h) (rw (sym k) l)
+
+-- ---- on another shape
 
 module _ (ku kv cs ws : List Float) {s t : Shape} where
   pub evaluated-by : (u v : Float) → s ≡ t → {q : Evaluation} → q ≡ evaluated (surface s ku kv cs ws) u v → q ≡ evaluated (surface t ku kv cs ws) u v
@@ -134,33 +55,54 @@ module _ (ku kv cs ws : List Float) {s t : Shape} where
 pub took : {p q : Placing} {b : ℕ} → p ≡ q → takenOf q ≤ b → takenOf p ≤ b
 took e h = omega (arith, ap takenOf e, h)
 
-pub within : {p q : Placing} {b : ℕ} → p ≡ q → takenOf p ≤ b → takenOf q ≤ b
-within e h = took (sym e) h
-
-abbrev pub Leaves : Places → ℕ → List ℕ → List Float → Type 0
-Leaves a number budget pair = (number ≡ a .number) × ((budget ≡ a .budget) × (pair ≡ a .pair))
-
--- what an answer writes
-abbrev pub Laid : Placing → List ℕ → List Float → ℕ → List ℕ → List Float → Type 0
-Laid p bs xs number budget pair = (number ≡ numberOf p) × ((budget ≡ leftInto p bs) × (pair ≡ pairInto p xs))
-
-pub laid-refusal : (bs : List ℕ) (xs : List Float) {p : Placing} {n t : ℕ} → 1 ≤ length bs → p ≡ Refusal n t → Laid p bs xs n (set bs 0 (getD bs 0 0 - t)) xs
-unfolding numberOf leftInto leftOf pairInto
-laid-refusal [] xs l h = absurd (omega arith)
-laid-refusal (b ∷ bs) xs l h = rw h (refl, (refl, refl))
-
-pub laid-pair : (bs : List ℕ) (xs : List Float) {p : Placing} {u v : Float} {t : ℕ} → 1 ≤ length bs → 2 ≤ length xs → p ≡ Pair u v t → Laid p bs xs 0 (set bs 0 (getD bs 0 0 - t)) (set (set xs 0 u) 1 v)
-unfolding numberOf leftInto leftOf pairInto
-laid-pair [] xs l k h = absurd (omega arith)
-laid-pair (b ∷ bs) [] l k h = absurd (omega arith)
-laid-pair (b ∷ bs) (x ∷ []) l k h = absurd (omega arith)
-laid-pair (b ∷ bs) (x ∷ (y ∷ xs)) l k h = rw h (refl, (refl, refl))
+abbrev leaves : ℕ → List ℕ → List Float → Places
+leaves number budget pair = record { number = number; budget = budget; pair = pair }
 
 module _ (call : ℕ → Placing) (bs : List ℕ) (xs : List Float) {b fit : Bool} (e : b ≡ fit) where
-  pub unfit : b ≡ false → Leaves (placesIf fit call bs xs) 99 bs xs
+  pub unfit : b ≡ false → leaves 99 bs xs ≡ placesIf fit call bs xs
   unfolding placesIf
-  unfit h = rw (sym e ∙ h) (refl, (refl, refl))
+  unfit h = rw (sym e ∙ h) refl
 
-  pub fits : b ≡ true → {p : Placing} → p ≡ call (getD bs 0 0) → {n : ℕ} {cs : List ℕ} {ys : List Float} → Laid p bs xs n cs ys → Leaves (placesIf fit call bs xs) n cs ys
+  pub fits : b ≡ true → {p : Placing} → p ≡ call (getD bs 0 0) → {n : ℕ} {cs : List ℕ} {ys : List Float} → leaves n cs ys ≡ placingInto p bs xs → leaves n cs ys ≡ placesIf fit call bs xs
   unfolding placesIf
   fits h q l = rw (sym e ∙ h) (rw (sym q) l)
+
+-- ---- a row
+
+abbrev ends : ℕ → List ℕ → List ℕ → List Float → Rows
+ends number budget index answers = record { number = number; budget = budget; index = index; answers = answers }
+
+alike : {k n : ℕ} {bs cs ns ms : List ℕ} {xs ys : List Float} → k ≡ n → bs ≡ cs → ns ≡ ms → xs ≡ ys → ends k bs ns xs ≡ ends n cs ms ys
+alike h i j k = rw h (rw i (rw j (rw k refl)))
+
+module _ (row : ℕ → Rowed) (bs ns : List ℕ) (xs : List Float) {b fit : Bool} (e : b ≡ fit) where
+  pub row-unfit : b ≡ false → ends 99 bs ns xs ≡ rowsIf fit row bs ns xs
+  unfolding rowsIf
+  row-unfit h = rw (sym e ∙ h) refl
+
+  pub row-fits : b ≡ true → {r : Rowed} → r ≡ row (getD bs 0 0) → {d : Ended} {ys : List Float} → (d ≡ r .ended) × (ys ≡ written (r .pairs) xs)
+      → {n : ℕ} {cs ms : List ℕ} → (n ≡ numberOf d) × ((cs ≡ firstOf (leftOf d) bs) × (ms ≡ firstOf (indexOf d) ns)) → ends n cs ms ys ≡ rowsIf fit row bs ns xs
+  unfolding rowsIf
+  row-fits h q w l = rw (sym e ∙ h) (rw (sym q) (rw (sym (w .0)) (alike (l .0) (l .1 .0) (l .1 .1) (w .1))))
+
+module _ (ku kv cs ws marks : List Float) (room : ℕ) (tolerance : Float) (b : ℕ) {s t : Shape} (i : s ≡ t) where
+  pub rowed-by : {h h' : Hint} → h ≡ h' → {pu pu' : Period} → pu ≡ pu' → {pv pv' : Period} → pv ≡ pv' → rowInto (surface s ku kv cs ws) marks room h tolerance pu pv b ≡ rowInto (surface t ku kv cs ws) marks room h' tolerance pu' pv' b
+  rowed-by {h} {h'} j {pu} {pu'} k {pv} {pv'} l =
+      ap (λ x. rowInto (surface x ku kv cs ws) marks room h tolerance pu pv b) i ∙ ap (λ x. rowInto (surface t ku kv cs ws) marks room x tolerance pu pv b) j ∙ ap (λ x. rowInto (surface t ku kv cs ws) marks room h' tolerance x pv b) k ∙ ap (λ x. rowInto (surface t ku kv cs ws) marks room h' tolerance pu' x b) l
+
+-- ---- the edges
+
+abbrev tell : ℕ → List ℕ → List Float → Tells
+tell number collapsed edges = record { number = number; collapsed = collapsed; edges = edges }
+
+module _ (found : Edges) (ns : List ℕ) (xs : List Float) {b fit : Bool} (e : b ≡ fit) where
+  pub edges-unfit : b ≡ false → tell 99 ns xs ≡ tellsIf fit found ns xs
+  unfolding tellsIf
+  edges-unfit h = rw (sym e ∙ h) refl
+
+  pub edges-fit : b ≡ true → {q : Edges} → q ≡ found → {n : ℕ} {ms : List ℕ} {ys : List Float} → tell n ms ys ≡ edgesInto q ns xs → tell n ms ys ≡ tellsIf fit found ns xs
+  unfolding tellsIf
+  edges-fit h k l = rw (sym e ∙ h) (rw (sym k) l)
+
+pub singular-by : (ku kv cs ws : List Float) (tolerance : Float) {s t : Shape} → s ≡ t → {q : Edges} → q ≡ singular (surface s ku kv cs ws) tolerance → q ≡ singular (surface t ku kv cs ws) tolerance
+singular-by ku kv cs ws tolerance h k = k ∙ ap (λ x. singular (surface x ku kv cs ws) tolerance) h

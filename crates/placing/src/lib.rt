@@ -1,32 +1,30 @@
 // The calls for C and Rust, on numbers and lent slices. Each tests every argument, answers the number of its refusal or 0, and writes the rest of its answer to the slices lent for it.
 // A surface is lent as the degrees (du, dv) and the counts of controls (nu, nv), the flags (1 where u is periodic, and 2 more where v is), the knots (ku, kv), the controls and the weights.
-mod answers;
-mod arguments;
-mod ends;
-
-use answers::lay_jet;
-use answers::lay_placing;
-use arguments::hint_of;
-use arguments::period_of;
-use arguments::roomy;
-use arguments::roomy_edges;
-use arguments::roomy_row;
-use arguments::shape_of;
-use arguments::sound_flags;
-use arguments::sound_options;
 use edges::nurbs_singular;
-use ends::lay_edges;
-use ends::lay_ended;
 use inverter::Frame;
 use inverter::derivative;
 use inverter::invert;
 use inverter::invert_plane;
+use lent::fits_derivative;
+use lent::fits_edges;
+use lent::fits_inversion;
+use lent::fits_jet;
+use lent::fits_row;
+use lent::hint_of;
+use lent::lay_edges;
+use lent::lay_ended;
+use lent::lay_jet;
+use lent::lay_placing;
+use lent::period_of;
+use lent::roomy;
+use lent::shape_of;
 use row::row;
 use surface::evaluate;
 use vector3::Vector3;
 ghost use mathlib.Core.Path.{_≡_};
 ghost use Rattle.surface.specs.Surface.{surface};
-ghost use Rattle.placing.specs.Boundary.{shapeOf, vector, evaluates, inverts, rows, derives, tells, locates};
+ghost use Rattle.lent.specs.Lent.{shapeOf};
+ghost use Rattle.placing.specs.Boundary.{vector, evaluates, inverts, rows, derives, tells, locates};
 
 // Answered, before any other check and with nothing written, where flags are above 3, a hint or a period has another count of numbers, or a slice is too short for what is to be written. No document gives this number a meaning of its own.
 const UNFIT: u64 = 99;
@@ -47,11 +45,9 @@ pub extern "C" fn placing_evaluate(
     v: f64,
     jet: &mut [f64],
 ) -> u64
-    ensures { λ r. ⌜ r ≡ evaluates flags (surface (shapeOf du dv nu nv flags) (now (ku .entry)) (now (kv .entry)) (now (controls .entry)) (now (weights .entry))) u v (now (jet .entry)) .number ⌝ }
-    ensures { λ _. ⌜ now (jet .exit) ≡ evaluates flags (surface (shapeOf du dv nu nv flags) (now (ku .entry)) (now (kv .entry)) (now (controls .entry)) (now (weights .entry))) u v (now (jet .entry)) .jet ⌝ }
+    ensures { λ r. ⌜ record { number = r; jet = now (jet .exit) } ≡ evaluates flags (surface (shapeOf du dv nu nv flags) (now (ku .entry)) (now (kv .entry)) (now (controls .entry)) (now (weights .entry))) u v (now (jet .entry)) ⌝ }
 {
-    let fit = sound_flags(flags) & (9 <= jet.len());
-    if !fit {
+    if !fits_jet(flags, jet.len()) {
         return UNFIT;
     }
     let shape = shape_of(du, dv, nu, nv, flags);
@@ -81,12 +77,16 @@ pub extern "C" fn placing_invert(
     budget: &mut [u64],
     pair: &mut [f64],
 ) -> u64
-    ensures { λ r. ⌜ r ≡ inverts flags (surface (shapeOf du dv nu nv flags) (now (ku .entry)) (now (kv .entry)) (now (controls .entry)) (now (weights .entry))) (vector x y z) (now (hint .entry)) tolerance (now (pu .entry)) (now (pv .entry)) (now (budget .entry)) (now (pair .entry)) .number ⌝ }
-    ensures { λ _. ⌜ now (budget .exit) ≡ inverts flags (surface (shapeOf du dv nu nv flags) (now (ku .entry)) (now (kv .entry)) (now (controls .entry)) (now (weights .entry))) (vector x y z) (now (hint .entry)) tolerance (now (pu .entry)) (now (pv .entry)) (now (budget .entry)) (now (pair .entry)) .budget ⌝ }
-    ensures { λ _. ⌜ now (pair .exit) ≡ inverts flags (surface (shapeOf du dv nu nv flags) (now (ku .entry)) (now (kv .entry)) (now (controls .entry)) (now (weights .entry))) (vector x y z) (now (hint .entry)) tolerance (now (pu .entry)) (now (pv .entry)) (now (budget .entry)) (now (pair .entry)) .pair ⌝ }
+    ensures { λ r. ⌜ record { number = r; budget = now (budget .exit); pair = now (pair .exit) } ≡ inverts flags (surface (shapeOf du dv nu nv flags) (now (ku .entry)) (now (kv .entry)) (now (controls .entry)) (now (weights .entry))) (vector x y z) (now (hint .entry)) tolerance (now (pu .entry)) (now (pv .entry)) (now (budget .entry)) (now (pair .entry)) ⌝ }
 {
-    let fit = sound_flags(flags) & sound_options(hint, pu, pv) & roomy(budget, pair);
-    if !fit {
+    if !fits_inversion(
+        flags,
+        hint.len(),
+        pu.len(),
+        pv.len(),
+        budget.len(),
+        pair.len(),
+    ) {
         return UNFIT;
     }
     let shape = shape_of(du, dv, nu, nv, flags);
@@ -128,13 +128,16 @@ pub extern "C" fn placing_row(
     index: &mut [u64],
     answers: &mut [f64],
 ) -> u64
-    ensures { λ r. ⌜ r ≡ rows flags (surface (shapeOf du dv nu nv flags) (now (ku .entry)) (now (kv .entry)) (now (controls .entry)) (now (weights .entry))) (now (marks .entry)) (now (hint .entry)) tolerance (now (pu .entry)) (now (pv .entry)) (now (budget .entry)) (now (index .entry)) (now (answers .entry)) .number ⌝ }
-    ensures { λ _. ⌜ now (budget .exit) ≡ rows flags (surface (shapeOf du dv nu nv flags) (now (ku .entry)) (now (kv .entry)) (now (controls .entry)) (now (weights .entry))) (now (marks .entry)) (now (hint .entry)) tolerance (now (pu .entry)) (now (pv .entry)) (now (budget .entry)) (now (index .entry)) (now (answers .entry)) .budget ⌝ }
-    ensures { λ _. ⌜ now (index .exit) ≡ rows flags (surface (shapeOf du dv nu nv flags) (now (ku .entry)) (now (kv .entry)) (now (controls .entry)) (now (weights .entry))) (now (marks .entry)) (now (hint .entry)) tolerance (now (pu .entry)) (now (pv .entry)) (now (budget .entry)) (now (index .entry)) (now (answers .entry)) .index ⌝ }
-    ensures { λ _. ⌜ now (answers .exit) ≡ rows flags (surface (shapeOf du dv nu nv flags) (now (ku .entry)) (now (kv .entry)) (now (controls .entry)) (now (weights .entry))) (now (marks .entry)) (now (hint .entry)) tolerance (now (pu .entry)) (now (pv .entry)) (now (budget .entry)) (now (index .entry)) (now (answers .entry)) .answers ⌝ }
+    ensures { λ r. ⌜ record { number = r; budget = now (budget .exit); index = now (index .exit); answers = now (answers .exit) } ≡ rows flags (surface (shapeOf du dv nu nv flags) (now (ku .entry)) (now (kv .entry)) (now (controls .entry)) (now (weights .entry))) (now (marks .entry)) (now (hint .entry)) tolerance (now (pu .entry)) (now (pv .entry)) (now (budget .entry)) (now (index .entry)) (now (answers .entry)) ⌝ }
 {
-    let fit = sound_flags(flags) & sound_options(hint, pu, pv) & roomy_row(budget, index);
-    if !fit {
+    if !fits_row(
+        flags,
+        hint.len(),
+        pu.len(),
+        pv.len(),
+        budget.len(),
+        index.len(),
+    ) {
         return UNFIT;
     }
     let shape = shape_of(du, dv, nu, nv, flags);
@@ -175,12 +178,9 @@ pub extern "C" fn placing_derivative(
     budget: &mut [u64],
     pair: &mut [f64],
 ) -> u64
-    ensures { λ r. ⌜ r ≡ derives flags (surface (shapeOf du dv nu nv flags) (now (ku .entry)) (now (kv .entry)) (now (controls .entry)) (now (weights .entry))) u v (vector x y z) (now (budget .entry)) (now (pair .entry)) .number ⌝ }
-    ensures { λ _. ⌜ now (budget .exit) ≡ derives flags (surface (shapeOf du dv nu nv flags) (now (ku .entry)) (now (kv .entry)) (now (controls .entry)) (now (weights .entry))) u v (vector x y z) (now (budget .entry)) (now (pair .entry)) .budget ⌝ }
-    ensures { λ _. ⌜ now (pair .exit) ≡ derives flags (surface (shapeOf du dv nu nv flags) (now (ku .entry)) (now (kv .entry)) (now (controls .entry)) (now (weights .entry))) u v (vector x y z) (now (budget .entry)) (now (pair .entry)) .pair ⌝ }
+    ensures { λ r. ⌜ record { number = r; budget = now (budget .exit); pair = now (pair .exit) } ≡ derives flags (surface (shapeOf du dv nu nv flags) (now (ku .entry)) (now (kv .entry)) (now (controls .entry)) (now (weights .entry))) u v (vector x y z) (now (budget .entry)) (now (pair .entry)) ⌝ }
 {
-    let fit = sound_flags(flags) & roomy(budget, pair);
-    if !fit {
+    if !fits_derivative(flags, budget.len(), pair.len()) {
         return UNFIT;
     }
     let shape = shape_of(du, dv, nu, nv, flags);
@@ -205,12 +205,9 @@ pub extern "C" fn placing_nurbs_singular(
     collapsed: &mut [u64],
     edges: &mut [f64],
 ) -> u64
-    ensures { λ r. ⌜ r ≡ tells flags (surface (shapeOf du dv nu nv flags) (now (ku .entry)) (now (kv .entry)) (now (controls .entry)) (now (weights .entry))) tolerance (now (collapsed .entry)) (now (edges .entry)) .number ⌝ }
-    ensures { λ _. ⌜ now (collapsed .exit) ≡ tells flags (surface (shapeOf du dv nu nv flags) (now (ku .entry)) (now (kv .entry)) (now (controls .entry)) (now (weights .entry))) tolerance (now (collapsed .entry)) (now (edges .entry)) .collapsed ⌝ }
-    ensures { λ _. ⌜ now (edges .exit) ≡ tells flags (surface (shapeOf du dv nu nv flags) (now (ku .entry)) (now (kv .entry)) (now (controls .entry)) (now (weights .entry))) tolerance (now (collapsed .entry)) (now (edges .entry)) .edges ⌝ }
+    ensures { λ r. ⌜ record { number = r; collapsed = now (collapsed .exit); edges = now (edges .exit) } ≡ tells flags (surface (shapeOf du dv nu nv flags) (now (ku .entry)) (now (kv .entry)) (now (controls .entry)) (now (weights .entry))) tolerance (now (collapsed .entry)) (now (edges .entry)) ⌝ }
 {
-    let fit = sound_flags(flags) & roomy_edges(collapsed, edges);
-    if !fit {
+    if !fits_edges(flags, collapsed.len(), edges.len()) {
         return UNFIT;
     }
     let shape = shape_of(du, dv, nu, nv, flags);
@@ -236,12 +233,9 @@ pub extern "C" fn placing_plane(
     budget: &mut [u64],
     pair: &mut [f64],
 ) -> u64
-    ensures { λ r. ⌜ r ≡ locates (record { origin = vector ox oy oz; x = vector ux uy uz; y = vector vx vy vz }) (vector x y z) (now (budget .entry)) (now (pair .entry)) .number ⌝ }
-    ensures { λ _. ⌜ now (budget .exit) ≡ locates (record { origin = vector ox oy oz; x = vector ux uy uz; y = vector vx vy vz }) (vector x y z) (now (budget .entry)) (now (pair .entry)) .budget ⌝ }
-    ensures { λ _. ⌜ now (pair .exit) ≡ locates (record { origin = vector ox oy oz; x = vector ux uy uz; y = vector vx vy vz }) (vector x y z) (now (budget .entry)) (now (pair .entry)) .pair ⌝ }
+    ensures { λ r. ⌜ record { number = r; budget = now (budget .exit); pair = now (pair .exit) } ≡ locates (record { origin = vector ox oy oz; x = vector ux uy uz; y = vector vx vy vz }) (vector x y z) (now (budget .entry)) (now (pair .entry)) ⌝ }
 {
-    let fit = roomy(budget, pair);
-    if !fit {
+    if !roomy(budget.len(), pair.len()) {
         return UNFIT;
     }
     let frame = Frame {

@@ -1,32 +1,24 @@
 use borrow.Author.Tests.{not-true, not-false}
+use Rattle.lent.specs.FitLaws.{derivative-room}
 use Rattle.placing.specs.Boundary.{derives}
 use Rattle.placing.specs.TakenLaws.{derived-taken}
-use Rattle.placing.proofs.Steps.{both, right, room, first-in, took, derived-by, unfit, fits}
+use Rattle.placing.proofs.Steps.{took, derived-by, unfit, fits}
 use borrow.Author.Needs.{needs}
 use Rattle.placing.proofs.placing_derivative.Statement.{statement}
 use Rattle.placing.proofs.placing_derivative.Tie as tie
 
-sound-flags-requires : tie.Need-sound-flags-requires
-sound-flags-requires c κs = search needs
-
-roomy-requires : tie.Need-roomy-requires
-roomy-requires c κs = search needs
-
-same-length : tie.Need-same-length
-same-length c = search needs
-
-same-length-2 : tie.Need-same-length-2
-same-length-2 c = search needs
+fits-derivative-requires : tie.Need-fits-derivative-requires
+fits-derivative-requires c κs = search needs
 
 returns : tie.Need-returns
 unfolding derives
-returns c = let ro = c .before in unfit _ _ _ (both (ro .before .before .before .sound-flags .ensures) (ro .roomy .ensures)) (not-true _ (c .if1 .taken))
+returns c = let ro = c .before in unfit _ _ _ (ro .fits-derivative .ensures) (not-true _ (c .if1 .taken))
 
 shape-of-requires : tie.Need-shape-of-requires
 shape-of-requires c κs = search needs
 
 slice-read-derivative : tie.Need-slice-read-derivative
-slice-read-derivative c = let el = c .before .before in first-in _ _ (el .before .roomy .ensures) (right (el .before .before .before .before .sound-flags .result) (el .before .roomy .result) (not-false _ (el .if1 .left)))
+slice-read-derivative c = let el = c .before .before in derivative-room _ _ _ (el .before .fits-derivative .ensures) (not-false _ (el .if1 .left)) .0
 
 derivative-requires : tie.Need-derivative-requires
 derivative-requires c κs = search needs
@@ -35,14 +27,14 @@ lay-placing-requires : tie.Need-lay-placing-requires
 lay-placing-requires c κs =
     let to = c .before .before in
     let el = to .before .before .before in
-    let r = room _ _ (el .before .roomy .ensures) (right (el .before .before .before .before .sound-flags .result) (el .before .roomy .result) (not-false _ (el .if1 .left))) in
+    let r = derivative-room _ _ _ (el .before .fits-derivative .ensures) (not-false _ (el .if1 .left)) in
     (r .0, r .1, took (to .derivative .ensures) (derived-taken _ _ _ _ _))
 
-same-length-3 : tie.Need-same-length-3
-same-length-3 c = search needs
+same-length : tie.Need-same-length
+same-length c = search needs
 
-same-length-4 : tie.Need-same-length-4
-same-length-4 c = search needs
+same-length-2 : tie.Need-same-length-2
+same-length-2 c = search needs
 
 returns-2 : tie.Need-returns-2
 unfolding derives
@@ -52,21 +44,18 @@ returns-2 c =
     let sh = to .before .before in
     let el = sh .before in
     let ro = el .before in
-    fits _ _ _ (both (ro .before .before .before .sound-flags .ensures) (ro .roomy .ensures)) (not-false _ (el .if1 .left)) (derived-by _ _ _ _ _ _ _ _ (sh .shape-of .ensures) (to .derivative .ensures)) (la .lay-placing .ensures)
+    fits _ _ _ (ro .fits-derivative .ensures) (not-false _ (el .if1 .left)) (derived-by _ _ _ _ _ _ _ _ (sh .shape-of .ensures) (to .derivative .ensures)) (la .lay-placing .ensures)
 
 pub placing-derivative-spec : {M : Type 1} → statement M
 placing-derivative-spec =
     tie.close
     (tie.spec
-    sound-flags-requires
-    roomy-requires
-    same-length
-    same-length-2
+    fits-derivative-requires
     returns
     shape-of-requires
     slice-read-derivative
     derivative-requires
     lay-placing-requires
-    same-length-3
-    same-length-4
+    same-length
+    same-length-2
     returns-2)

@@ -1,18 +1,17 @@
-use mathlib.Core.Path.{refl}
-use denote.Ref.{now}
 use borrow.Author.Tests.{not-true, not-false}
+use Rattle.lent.specs.FitLaws.{jet-room}
 use Rattle.placing.specs.Boundary.{evaluates}
-use Rattle.placing.proofs.Steps.{both, nine-fit, evaluated-by, jet-unfit, jet-fit}
+use Rattle.placing.proofs.Steps.{evaluated-by, jet-unfit, jet-fit}
 use borrow.Author.Needs.{needs}
 use Rattle.placing.proofs.placing_evaluate.Statement.{statement}
 use Rattle.placing.proofs.placing_evaluate.Tie as tie
 
-sound-flags-requires : tie.Need-sound-flags-requires
-sound-flags-requires c κs = search needs
+fits-jet-requires : tie.Need-fits-jet-requires
+fits-jet-requires c κs = search needs
 
 returns : tie.Need-returns
 unfolding evaluates
-returns c = jet-unfit _ _ (both (c .before .sound-flags .ensures) refl) (not-true _ (c .if1 .taken))
+returns c = jet-unfit _ _ (c .before .fits-jet .ensures) (not-true _ (c .if1 .taken))
 
 shape-of-requires : tie.Need-shape-of-requires
 shape-of-requires c κs = search needs
@@ -21,7 +20,7 @@ evaluate-requires : tie.Need-evaluate-requires
 evaluate-requires c κs = search needs
 
 lay-jet-requires : tie.Need-lay-jet-requires
-lay-jet-requires c κs = let el = c .before .before .before in nine-fit (now (el .before .before .before .before .before .before .before .args .jet)) (el .before .sound-flags .result) (not-false _ (el .if1 .left))
+lay-jet-requires c κs = let el = c .before .before .before in jet-room _ _ (el .before .fits-jet .ensures) (not-false _ (el .if1 .left))
 
 same-length : tie.Need-same-length
 same-length c = search needs
@@ -31,13 +30,13 @@ unfolding evaluates
 returns-2 c =
     let to = c .before .before .before .before in
     let at = to .before .before in
-    jet-fit _ _ (both (at .before .sound-flags .ensures) refl) (not-false _ (at .if1 .left)) (evaluated-by _ _ _ _ _ _ (to .before .shape-of .ensures) (to .evaluate .ensures)) (c .before .before .lay-jet .ensures)
+    jet-fit _ _ (at .before .fits-jet .ensures) (not-false _ (at .if1 .left)) (evaluated-by _ _ _ _ _ _ (to .before .shape-of .ensures) (to .evaluate .ensures)) (c .before .before .lay-jet .ensures)
 
 pub placing-evaluate-spec : {M : Type 1} → statement M
 placing-evaluate-spec =
     tie.close
     (tie.spec
-    sound-flags-requires
+    fits-jet-requires
     returns
     shape-of-requires
     evaluate-requires

@@ -1,26 +1,17 @@
 use borrow.Author.Tests.{not-true, not-false}
+use Rattle.lent.specs.FitLaws.{edges-room}
 use Rattle.placing.specs.Boundary.{tells}
-use Rattle.placing.proofs.Steps.{both, right}
-use Rattle.placing.proofs.EndSteps.{room-edges, singular-by, edges-unfit, edges-fit}
+use Rattle.placing.proofs.Steps.{singular-by, edges-unfit, edges-fit}
 use borrow.Author.Needs.{needs}
 use Rattle.placing.proofs.placing_nurbs_singular.Statement.{statement}
 use Rattle.placing.proofs.placing_nurbs_singular.Tie as tie
 
-sound-flags-requires : tie.Need-sound-flags-requires
-sound-flags-requires c κs = search needs
-
-roomy-edges-requires : tie.Need-roomy-edges-requires
-roomy-edges-requires c κs = search needs
-
-same-length : tie.Need-same-length
-same-length c = search needs
-
-same-length-2 : tie.Need-same-length-2
-same-length-2 c = search needs
+fits-edges-requires : tie.Need-fits-edges-requires
+fits-edges-requires c κs = search needs
 
 returns : tie.Need-returns
 unfolding tells
-returns c = let ro = c .before in edges-unfit _ _ _ (both (ro .before .before .before .sound-flags .ensures) (ro .roomy-edges .ensures)) (not-true _ (c .if1 .taken))
+returns c = let ro = c .before in edges-unfit _ _ _ (ro .fits-edges .ensures) (not-true _ (c .if1 .taken))
 
 shape-of-requires : tie.Need-shape-of-requires
 shape-of-requires c κs = search needs
@@ -32,13 +23,13 @@ lay-edges-requires : tie.Need-lay-edges-requires
 lay-edges-requires c κs =
     let el = c .before .before .before .before in
     let ro = el .before in
-    room-edges _ _ (ro .roomy-edges .ensures) (right (ro .before .before .before .sound-flags .result) (ro .roomy-edges .result) (not-false _ (el .if1 .left)))
+    edges-room _ _ _ (ro .fits-edges .ensures) (not-false _ (el .if1 .left))
 
-same-length-3 : tie.Need-same-length-3
-same-length-3 c = search needs
+same-length : tie.Need-same-length
+same-length c = search needs
 
-same-length-4 : tie.Need-same-length-4
-same-length-4 c = search needs
+same-length-2 : tie.Need-same-length-2
+same-length-2 c = search needs
 
 returns-2 : tie.Need-returns-2
 unfolding tells
@@ -48,20 +39,17 @@ returns-2 c =
     let sh = to .before in
     let el = sh .before in
     let ro = el .before in
-    edges-fit _ _ _ (both (ro .before .before .before .sound-flags .ensures) (ro .roomy-edges .ensures)) (not-false _ (el .if1 .left)) (singular-by _ _ _ _ _ (sh .shape-of .ensures) (to .nurbs-singular .ensures)) (la .lay-edges .ensures)
+    edges-fit _ _ _ (ro .fits-edges .ensures) (not-false _ (el .if1 .left)) (singular-by _ _ _ _ _ (sh .shape-of .ensures) (to .nurbs-singular .ensures)) (la .lay-edges .ensures)
 
 pub placing-nurbs-singular-spec : {M : Type 1} → statement M
 placing-nurbs-singular-spec =
     tie.close
     (tie.spec
-    sound-flags-requires
-    roomy-edges-requires
-    same-length
-    same-length-2
+    fits-edges-requires
     returns
     shape-of-requires
     nurbs-singular-requires
     lay-edges-requires
-    same-length-3
-    same-length-4
+    same-length
+    same-length-2
     returns-2)

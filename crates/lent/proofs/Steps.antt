@@ -1,0 +1,106 @@
+-- What is read of a caller's numbers, and what an evaluation and a placing write. Assumes nothing.
+use mathlib.Core.Path.{_≡_, refl, sym, ap, _∙_}
+use mathlib.Core.Bool.{Bool, _&&_}
+use mathlib.Core.List.{List, [], _∷_}
+use Prim.Native.Nat.{ℕ, zero, suc, _-_, _≤_, _<_}
+use native.Mathlib.Omega.{arith}
+use lib.ListN.{length, getD, set, length-set}
+use lib.Ieee.{Float, nan}
+use Rattle.patch.specs.declared.Jet.{Jet}
+use Rattle.surface.specs.declared.Evaluation.{Evaluation}
+use Rattle.surface.specs.declared.Evaluation.the-variants as Evaluation
+use Rattle.inversion.specs.declared.Hint.the-variants.{Nothing, At}
+use Rattle.inverter.specs.declared.Period.the-variants.{Free, Every}
+use Rattle.inverter.specs.declared.Placing.{Placing}
+use Rattle.inverter.specs.declared.Placing.the-variants.{Pair, Refusal}
+use Rattle.inverter.specs.Inverter.{numberOf, leftOf}
+use Rattle.row.specs.RowLaws.{takenOf}
+use Rattle.lent.specs.Lent.{Evaluates, Places, hintOf, periodOf, numbersOf, jetInto, pairInto, leftInto, placingInto}
+
+-- ---- what is read
+
+pub no-hint : (xs : List Float) → (length xs ≡ 2 → ⊥) → Nothing ≡ hintOf xs
+unfolding hintOf
+no-hint [] h = refl
+no-hint (u ∷ []) h = refl
+no-hint (u ∷ (v ∷ [])) h = absurd (h refl)
+no-hint (u ∷ (v ∷ (x ∷ xs))) h = refl
+
+pub a-hint : (xs : List Float) → length xs ≡ 2 → At (getD xs 0 nan) (getD xs 1 nan) ≡ hintOf xs
+unfolding hintOf
+a-hint [] h = absurd (omega arith)
+a-hint (u ∷ []) h = absurd (omega arith)
+a-hint (u ∷ (v ∷ [])) h = refl
+a-hint (u ∷ (v ∷ (x ∷ xs))) h = absurd (omega arith)
+
+pub no-period : (xs : List Float) → (length xs ≡ 1 → ⊥) → Free ≡ periodOf xs
+unfolding periodOf
+no-period [] h = refl
+no-period (p ∷ []) h = absurd (h refl)
+no-period (p ∷ (x ∷ xs)) h = refl
+
+pub a-period : (xs : List Float) → length xs ≡ 1 → Every (getD xs 0 nan) ≡ periodOf xs
+unfolding periodOf
+a-period [] h = absurd (omega arith)
+a-period (p ∷ []) h = refl
+a-period (p ∷ (x ∷ xs)) h = absurd (omega arith)
+
+-- ---- what fits
+
+pub both : {a b x y : Bool} → a ≡ x → b ≡ y → (a && b) ≡ (x && y)
+both {b} {x} h k = ap (λ t. t && b) h ∙ ap (λ t. x && t) k
+
+-- ---- an evaluation
+
+-- once k numbers of it are written
+abbrev pub begun : ℕ → List Float → Jet → List Float
+begun zero xs j = xs
+begun (suc k) xs j = set (begun k xs j) k (getD (numbersOf j) k nan)
+
+begun-length : (k : ℕ) (xs : List Float) (j : Jet) → length (begun k xs j) ≡ length xs
+begun-length zero xs j = refl
+begun-length (suc k) xs j = length-set (begun k xs j) k (getD (numbersOf j) k nan) ∙ begun-length k xs j
+
+pub ninth : (k : ℕ) (xs : List Float) (j : Jet) → k < 9 → 9 ≤ length xs → k < length (begun k xs j)
+ninth k xs j l h = omega (arith, begun-length k xs j)
+
+-- the number that is answered, and what the lent numbers are then
+abbrev jets : ℕ → List Float → Evaluates
+jets number jet = record { number = number; jet = jet }
+
+pub jet-refused : (xs : List Float) {e : Evaluation} {n : ℕ} → e ≡ Evaluation.Refusal n → jets n xs ≡ jetInto e xs
+unfolding jetInto
+jet-refused xs h = rw h refl
+
+pub jet-found : (xs : List Float) {e : Evaluation} {j : Jet} → 9 ≤ length xs → e ≡ Evaluation.Found j → jets 0 (begun 9 xs j) ≡ jetInto e xs
+unfolding jetInto
+jet-found [] l h = absurd (omega arith)
+jet-found (a ∷ []) l h = absurd (omega arith)
+jet-found (a ∷ (b ∷ [])) l h = absurd (omega arith)
+jet-found (a ∷ (b ∷ (c ∷ []))) l h = absurd (omega arith)
+jet-found (a ∷ (b ∷ (c ∷ (d ∷ [])))) l h = absurd (omega arith)
+jet-found (a ∷ (b ∷ (c ∷ (d ∷ (e ∷ []))))) l h = absurd (omega arith)
+jet-found (a ∷ (b ∷ (c ∷ (d ∷ (e ∷ (f ∷ [])))))) l h = absurd (omega arith)
+jet-found (a ∷ (b ∷ (c ∷ (d ∷ (e ∷ (f ∷ (g ∷ []))))))) l h = absurd (omega arith)
+jet-found (a ∷ (b ∷ (c ∷ (d ∷ (e ∷ (f ∷ (g ∷ (i ∷ [])))))))) l h = absurd (omega arith)
+jet-found (a ∷ (b ∷ (c ∷ (d ∷ (e ∷ (f ∷ (g ∷ (i ∷ (k ∷ xs))))))))) l h = rw h refl
+
+-- ---- a pair for units of a budget
+
+pub within : {p q : Placing} {b : ℕ} → p ≡ q → takenOf p ≤ b → takenOf q ≤ b
+within e h = omega (arith, ap takenOf e, h)
+
+abbrev leaves : ℕ → List ℕ → List Float → Places
+leaves number budget pair = record { number = number; budget = budget; pair = pair }
+
+pub laid-refusal : (bs : List ℕ) (xs : List Float) {p : Placing} {n t : ℕ} → 1 ≤ length bs → p ≡ Refusal n t → leaves n (set bs 0 (getD bs 0 0 - t)) xs ≡ placingInto p bs xs
+unfolding placingInto numberOf leftInto leftOf pairInto
+laid-refusal [] xs l h = absurd (omega arith)
+laid-refusal (b ∷ bs) xs l h = rw h refl
+
+pub laid-pair : (bs : List ℕ) (xs : List Float) {p : Placing} {u v : Float} {t : ℕ} → 1 ≤ length bs → 2 ≤ length xs → p ≡ Pair u v t → leaves 0 (set bs 0 (getD bs 0 0 - t)) (set (set xs 0 u) 1 v) ≡ placingInto p bs xs
+unfolding placingInto numberOf leftInto leftOf pairInto
+laid-pair [] xs l k h = absurd (omega arith)
+laid-pair (b ∷ bs) [] l k h = absurd (omega arith)
+laid-pair (b ∷ bs) (x ∷ []) l k h = absurd (omega arith)
+laid-pair (b ∷ bs) (x ∷ (y ∷ xs)) l k h = rw h refl

@@ -1,0 +1,21 @@
+use Rattle.lent.specs.Lent.{flagOf}
+use borrow.Author.Needs.{needs}
+use Rattle.lent.proofs.ends.flag_of.Statement.{statement}
+use Rattle.lent.proofs.ends.flag_of.Tie as tie
+
+enum-told : tie.Need-enum-told
+enum-told c = search needs
+
+enum-told-2 : tie.Need-enum-told-2
+enum-told-2 c = search needs
+
+returns : tie.Need-returns
+unfolding flagOf
+returns c = simp (c .enum-told .given .1)
+
+returns-2 : tie.Need-returns-2
+unfolding flagOf
+returns-2 c = simp (c .enum-told2 .given .1)
+
+pub flag-of-spec : {M : Type 1} → statement M
+flag-of-spec = tie.close (tie.spec enum-told enum-told-2 returns returns-2)

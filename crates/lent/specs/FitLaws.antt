@@ -1,0 +1,39 @@
+-- What fits has room for what is written. Assumes nothing.
+use mathlib.Core.Path.{_≡_, refl, sym, _∙_}
+use mathlib.Core.Bool.{Bool, true, _&&_, and-eq-true-iff}
+use Prim.Native.Nat.{ℕ, _≤_}
+use lib.Dec.{leb}
+use borrow.Author.Tests.{leb-true}
+use Rattle.lent.specs.Lent.{soundFlags, soundOptions, roomy, roomyRow, roomyEdges, fitsJet, fitsInversion, fitsRow, fitsDerivative, fitsEdges}
+
+right : (a b : Bool) → (a && b) ≡ true → b ≡ true
+right a b h = and-eq-true-iff a b .0 h .1
+
+both-least : (i j m n : ℕ) → (leb i m && leb j n) ≡ true → (i ≤ m) × (j ≤ n)
+both-least i j m n h =
+    let r = and-eq-true-iff (leb i m) (leb j n) .0 h in
+    (leb-true i m (r .0), leb-true j n (r .1))
+
+pub jet-room : (flags jet : ℕ) {b : Bool} → b ≡ fitsJet flags jet → b ≡ true → 9 ≤ jet
+unfolding fitsJet
+jet-room flags jet e h = leb-true 9 jet (right (soundFlags flags) (leb 9 jet) (sym e ∙ h))
+
+pub pair-room : (budget pair : ℕ) {b : Bool} → b ≡ roomy budget pair → b ≡ true → (1 ≤ budget) × (2 ≤ pair)
+unfolding roomy
+pair-room budget pair e h = both-least 1 2 budget pair (sym e ∙ h)
+
+pub inversion-room : (flags hint pu pv budget pair : ℕ) {b : Bool} → b ≡ fitsInversion flags hint pu pv budget pair → b ≡ true → (1 ≤ budget) × (2 ≤ pair)
+unfolding fitsInversion
+inversion-room flags hint pu pv budget pair e h = pair-room budget pair refl (right (soundFlags flags && soundOptions hint pu pv) (roomy budget pair) (sym e ∙ h))
+
+pub derivative-room : (flags budget pair : ℕ) {b : Bool} → b ≡ fitsDerivative flags budget pair → b ≡ true → (1 ≤ budget) × (2 ≤ pair)
+unfolding fitsDerivative
+derivative-room flags budget pair e h = pair-room budget pair refl (right (soundFlags flags) (roomy budget pair) (sym e ∙ h))
+
+pub row-room : (flags hint pu pv budget index : ℕ) {b : Bool} → b ≡ fitsRow flags hint pu pv budget index → b ≡ true → (1 ≤ budget) × (1 ≤ index)
+unfolding fitsRow roomyRow
+row-room flags hint pu pv budget index e h = both-least 1 1 budget index (right (soundFlags flags && soundOptions hint pu pv) (roomyRow budget index) (sym e ∙ h))
+
+pub edges-room : (flags collapsed edges : ℕ) {b : Bool} → b ≡ fitsEdges flags collapsed edges → b ≡ true → (4 ≤ collapsed) × (20 ≤ edges)
+unfolding fitsEdges roomyEdges
+edges-room flags collapsed edges e h = both-least 4 20 collapsed edges (right (soundFlags flags) (roomyEdges collapsed edges) (sym e ∙ h))

@@ -1,0 +1,142 @@
+-- How a caller's numbers are read, whether they fit, and how an answer is laid out in what the caller lends. Definitions only.
+use Prim.Native.Nat.{ℕ, _+_, _%_}
+use mathlib.Core.Bool.{Bool, _&&_, _||_}
+use mathlib.Core.List.{List, [], _∷_, _++_}
+use lib.Dec.{leb, ltb, eqb}
+use lib.ListN.{take, drop, getD}
+use lib.Ieee.{Float}
+use Rattle.patch.specs.declared.Jet.{Jet}
+use Rattle.surface.specs.declared.Shape.{Shape}
+use Rattle.surface.specs.declared.Evaluation.{Evaluation}
+use Rattle.surface.specs.declared.Evaluation.the-variants as Evaluation
+use Rattle.inversion.specs.declared.Hint.{Hint}
+use Rattle.inversion.specs.declared.Hint.the-variants.{Nothing, At}
+use Rattle.inverter.specs.declared.Period.{Period}
+use Rattle.inverter.specs.declared.Period.the-variants.{Free, Every}
+use Rattle.inverter.specs.declared.Placing.{Placing}
+use Rattle.inverter.specs.declared.Placing.the-variants.{Pair, Refusal}
+use Rattle.inverter.specs.Inverter.{numberOf, leftOf}
+use Rattle.edges.specs.declared.Edge.{Edge}
+use Rattle.edges.specs.declared.Edge.the-variants.{Open, Collapsed}
+use Rattle.edges.specs.declared.Edges.{Edges}
+use Rattle.edges.specs.declared.Edges.the-variants as Edges
+
+-- ---- what is read
+
+-- flags: 1 where u is periodic, and 2 more where v is
+unfoldable pub shapeOf : (du dv nu nv flags : ℕ) → Shape
+shapeOf du dv nu nv flags = record { u = record { degree = du; controls = nu; periodic = eqb (flags % 2) 1 }; v = record { degree = dv; controls = nv; periodic = ltb 1 flags } }
+
+-- two numbers are a hint, none are none
+unfoldable pub hintOf : List Float → Hint
+hintOf [] = Nothing
+hintOf (u ∷ []) = Nothing
+hintOf (u ∷ (v ∷ [])) = At u v
+hintOf (u ∷ (v ∷ (x ∷ xs))) = Nothing
+
+-- one number is a period, none is none
+unfoldable pub periodOf : List Float → Period
+periodOf [] = Free
+periodOf (p ∷ []) = Every p
+periodOf (p ∷ (x ∷ xs)) = Free
+
+-- ---- what fits: flags, and the counts of what is lent
+
+unfoldable pub soundFlags : ℕ → Bool
+soundFlags flags = leb flags 3
+
+-- of the counts of a hint and of two periods
+unfoldable pub soundOptions : ℕ → ℕ → ℕ → Bool
+soundOptions hint pu pv = (eqb hint 0 || eqb hint 2) && leb pu 1 && leb pv 1
+
+-- a budget and a pair are written
+unfoldable pub roomy : ℕ → ℕ → Bool
+roomy budget pair = leb 1 budget && leb 2 pair
+
+-- a budget and an index are written
+unfoldable pub roomyRow : ℕ → ℕ → Bool
+roomyRow budget index = leb 1 budget && leb 1 index
+
+-- four flags and four times five numbers are written
+unfoldable pub roomyEdges : ℕ → ℕ → Bool
+roomyEdges collapsed edges = leb 4 collapsed && leb 20 edges
+
+unfoldable pub fitsJet : (flags jet : ℕ) → Bool
+fitsJet flags jet = soundFlags flags && leb 9 jet
+
+unfoldable pub fitsInversion : (flags hint pu pv budget pair : ℕ) → Bool
+fitsInversion flags hint pu pv budget pair = soundFlags flags && soundOptions hint pu pv && roomy budget pair
+
+unfoldable pub fitsRow : (flags hint pu pv budget index : ℕ) → Bool
+fitsRow flags hint pu pv budget index = soundFlags flags && soundOptions hint pu pv && roomyRow budget index
+
+unfoldable pub fitsDerivative : (flags budget pair : ℕ) → Bool
+fitsDerivative flags budget pair = soundFlags flags && roomy budget pair
+
+unfoldable pub fitsEdges : (flags collapsed edges : ℕ) → Bool
+fitsEdges flags collapsed edges = soundFlags flags && roomyEdges collapsed edges
+
+-- ---- an evaluation
+
+-- the number of its refusal, 0 where there is none, and the lent numbers afterwards
+pub record Evaluates : Type 0 where
+  pub number : ℕ
+  pub jet : List Float
+
+-- the point, the derivative along u and that along v
+abbrev pub numbersOf : Jet → List Float
+numbersOf j = j .x ∷ (j .y ∷ (j .z ∷ (j .ux ∷ (j .uy ∷ (j .uz ∷ (j .vx ∷ (j .vy ∷ (j .vz ∷ []))))))))
+
+-- then all later numbers as they were
+unfoldable pub jetInto : Evaluation → List Float → Evaluates
+jetInto (Evaluation.Refusal n) jet = record { number = n; jet = jet }
+jetInto (Evaluation.Found j) jet = record { number = 0; jet = numbersOf j ++ drop 9 jet }
+
+-- ---- a pair for units of a budget
+
+-- the number of its refusal, 0 where there is none, and the lent numbers afterwards
+pub record Places : Type 0 where
+  pub number : ℕ
+  pub budget : List ℕ
+  pub pair : List Float
+
+-- the pair, then all later numbers as they were
+unfoldable pub pairInto : Placing → List Float → List Float
+pairInto (Pair u v taken) pair = u ∷ (v ∷ drop 2 pair)
+pairInto (Refusal number taken) pair = pair
+
+-- the budget left, then all later numbers as they were
+unfoldable pub leftInto : Placing → List ℕ → List ℕ
+leftInto p budget = leftOf (getD budget 0 0) p ∷ drop 1 budget
+
+unfoldable pub placingInto : Placing → List ℕ → List Float → Places
+placingInto p budget pair = record { number = numberOf p; budget = leftInto p budget; pair = pairInto p pair }
+
+-- ---- a row
+
+-- the first of the lent numbers, then all later ones as they were
+abbrev pub firstOf : ℕ → List ℕ → List ℕ
+firstOf n ns = n ∷ drop 1 ns
+
+-- ---- the edges
+
+-- the number of its refusal, 0 where there is none, and the lent numbers afterwards
+pub record Tells : Type 0 where
+  pub number : ℕ
+  pub collapsed : List ℕ
+  pub edges : List Float
+
+-- 1 where an edge collapses
+unfoldable pub flagOf : Edge → ℕ
+flagOf Open = 0
+flagOf (Collapsed e) = 1
+
+-- five numbers of an edge that collapses, from number i on, all others as they were: the value across it, the point, the side
+unfoldable pub edgeAt : ℕ → Edge → List Float → List Float
+edgeAt i Open edges = edges
+edgeAt i (Collapsed e) edges = take i edges ++ e .value ∷ (e .point .x ∷ (e .point .y ∷ (e .point .z ∷ (e .side ∷ drop (i + 5) edges))))
+
+unfoldable pub edgesInto : Edges → List ℕ → List Float → Tells
+edgesInto (Edges.Refusal n) collapsed edges = record { number = n; collapsed = collapsed; edges = edges }
+edgesInto (Edges.Found a b c d) collapsed edges =
+    record { number = 0; collapsed = flagOf a ∷ (flagOf b ∷ (flagOf c ∷ (flagOf d ∷ drop 4 collapsed))); edges = edgeAt 15 d (edgeAt 10 c (edgeAt 5 b (edgeAt 0 a edges))) }

@@ -1,0 +1,109 @@
+// A caller's numbers, and whether they fit: flags, and the counts of what is lent.
+use inversion::Hint;
+use inverter::Period;
+use surface::Counts;
+use surface::Shape;
+ghost use mathlib.Core.Path.{_≡_};
+ghost use Rattle.lent.specs.Lent.{shapeOf, hintOf, periodOf, soundFlags, soundOptions, roomy, roomyRow, roomyEdges, fitsJet, fitsInversion, fitsRow, fitsDerivative, fitsEdges};
+
+pub fn shape_of(du: usize, dv: usize, nu: usize, nv: usize, flags: u64) -> Shape
+    ensures { λ r. ⌜ r ≡ shapeOf du dv nu nv flags ⌝ }
+{
+    Shape {
+        u: Counts {
+            degree: du,
+            controls: nu,
+            periodic: flags % 2 == 1,
+        },
+        v: Counts {
+            degree: dv,
+            controls: nv,
+            periodic: flags > 1,
+        },
+    }
+}
+
+pub fn hint_of(hint: &[f64]) -> Hint
+    ensures { λ r. ⌜ r ≡ hintOf (now (hint .entry)) ⌝ }
+{
+    if hint.len() != 2 {
+        return Hint::Nothing;
+    }
+    Hint::At(hint[0], hint[1])
+}
+
+pub fn period_of(period: &[f64]) -> Period
+    ensures { λ r. ⌜ r ≡ periodOf (now (period .entry)) ⌝ }
+{
+    if period.len() != 1 {
+        return Period::Free;
+    }
+    Period::Every(period[0])
+}
+
+fn sound_flags(flags: u64) -> bool
+    ensures { λ r. ⌜ r ≡ soundFlags flags ⌝ }
+{
+    flags <= 3
+}
+
+fn sound_options(hint: usize, pu: usize, pv: usize) -> bool
+    ensures { λ r. ⌜ r ≡ soundOptions hint pu pv ⌝ }
+{
+    ((hint == 0) | (hint == 2)) & (pu <= 1) & (pv <= 1)
+}
+
+pub fn roomy(budget: usize, pair: usize) -> bool
+    ensures { λ r. ⌜ r ≡ roomy budget pair ⌝ }
+{
+    (1 <= budget) & (2 <= pair)
+}
+
+fn roomy_row(budget: usize, index: usize) -> bool
+    ensures { λ r. ⌜ r ≡ roomyRow budget index ⌝ }
+{
+    (1 <= budget) & (1 <= index)
+}
+
+fn roomy_edges(collapsed: usize, edges: usize) -> bool
+    ensures { λ r. ⌜ r ≡ roomyEdges collapsed edges ⌝ }
+{
+    (4 <= collapsed) & (20 <= edges)
+}
+
+pub fn fits_jet(flags: u64, jet: usize) -> bool
+    ensures { λ r. ⌜ r ≡ fitsJet flags jet ⌝ }
+{
+    sound_flags(flags) & (9 <= jet)
+}
+
+pub fn fits_inversion(
+    flags: u64,
+    hint: usize,
+    pu: usize,
+    pv: usize,
+    budget: usize,
+    pair: usize,
+) -> bool
+    ensures { λ r. ⌜ r ≡ fitsInversion flags hint pu pv budget pair ⌝ }
+{
+    sound_flags(flags) & sound_options(hint, pu, pv) & roomy(budget, pair)
+}
+
+pub fn fits_row(flags: u64, hint: usize, pu: usize, pv: usize, budget: usize, index: usize) -> bool
+    ensures { λ r. ⌜ r ≡ fitsRow flags hint pu pv budget index ⌝ }
+{
+    sound_flags(flags) & sound_options(hint, pu, pv) & roomy_row(budget, index)
+}
+
+pub fn fits_derivative(flags: u64, budget: usize, pair: usize) -> bool
+    ensures { λ r. ⌜ r ≡ fitsDerivative flags budget pair ⌝ }
+{
+    sound_flags(flags) & roomy(budget, pair)
+}
+
+pub fn fits_edges(flags: u64, collapsed: usize, edges: usize) -> bool
+    ensures { λ r. ⌜ r ≡ fitsEdges flags collapsed edges ⌝ }
+{
+    sound_flags(flags) & roomy_edges(collapsed, edges)
+}
