@@ -21,7 +21,7 @@ pub struct Line {
     pub value: f64,
 }
 
-pub fn along(k: u64, low: f64, high: f64, value: f64) -> Line
+pub(crate) fn along(k: u64, low: f64, high: f64, value: f64) -> Line
     ensures { λ r. ⌜ r ≡ Edges.line k low high value ⌝ }
 {
     Line {
@@ -96,7 +96,7 @@ fn all_near(
     true
 }
 
-pub fn edge(
+pub(crate) fn edge(
     shape: Shape,
     ku: &[f64],
     kv: &[f64],

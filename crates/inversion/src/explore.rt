@@ -30,7 +30,7 @@ fn interval_of(counts: Counts, knots: &[f64]) -> Interval
     }
 }
 
-pub fn domain_of(shape: Shape, ku: &[f64], kv: &[f64]) -> Domain
+pub(crate) fn domain_of(shape: Shape, ku: &[f64], kv: &[f64]) -> Domain
     requires { ⌜ (refusalOfKnots (axis (shape .u .degree) (shape .u .controls) (now ku)) ≡ 0) × (refusalOfKnots (axis (shape .v .degree) (shape .v .controls) (now kv)) ≡ 0) ⌝ }
     ensures { λ r. ⌜ (r .u ≡ intervalOf (shape .u) (now (ku .entry))) × (r .v ≡ intervalOf (shape .v) (now (kv .entry))) ⌝ }
 {
@@ -41,7 +41,7 @@ pub fn domain_of(shape: Shape, ku: &[f64], kv: &[f64]) -> Domain
 }
 
 // After the units of the hint's run, which are charged again at the end.
-pub fn explore(
+pub(crate) fn explore(
     shape: Shape,
     ku: &[f64],
     kv: &[f64],

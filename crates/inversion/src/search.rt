@@ -48,7 +48,7 @@ fn conclude(best: Best, taken: u64, more: u64, budget: u64) -> Inverted
 }
 
 // A run from each start. Units were taken before, and more are charged at the end.
-pub fn search(
+pub(crate) fn search(
     shape: Shape,
     ku: &[f64],
     kv: &[f64],

@@ -13,7 +13,7 @@ pub fn nearest(value: f64, hint: f64, period: f64) -> f64
     value + period * float64::round((hint - value) / period)
 }
 
-pub fn shift(period: Period, hint: f64, value: f64) -> f64
+pub(crate) fn shift(period: Period, hint: f64, value: f64) -> f64
     ensures { λ r. ⌜ r ≡ shifted period hint value ⌝ }
 {
     match period {
@@ -57,7 +57,7 @@ pub fn sound_terms(hint: Hint, tolerance: f64, pu: Period, pv: Period) -> bool
 }
 
 // Check 7.
-pub fn sound(mark: Vector3, hint: Hint, tolerance: f64, pu: Period, pv: Period) -> bool
+pub(crate) fn sound(mark: Vector3, hint: Hint, tolerance: f64, pu: Period, pv: Period) -> bool
     ensures { λ r. ⌜ r ≡ soundSearch mark hint tolerance pu pv ⌝ }
 {
     finite_vector(mark) & sound_terms(hint, tolerance, pu, pv)

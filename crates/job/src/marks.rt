@@ -22,7 +22,7 @@ ghost use Rattle.job_format.specs.Offsets.{marksAt};
 ghost use Rattle.job.specs.Printout.{rowLines};
 ghost use Rattle.job.specs.Turns.{placingLine, Printable};
 
-pub fn print_marks(
+pub(crate) fn print_marks(
     shape: Shape,
     ku: &[f64],
     kv: &[f64],

@@ -24,7 +24,7 @@ ghost use Rattle.job_format.specs.Offsets.{Fits, count, floatsAt, marksAt, jobA
 ghost use Rattle.job.specs.Printout.{rowLines, jobLines};
 
 // The surface's numbers are at the front of those lent.
-pub fn print_decoded(
+pub(crate) fn print_decoded(
     bytes: &[u8],
     shape: Shape,
     marks: usize,

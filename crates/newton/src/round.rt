@@ -16,7 +16,7 @@ use vector3::sub;
 ghost use mathlib.Core.Path.{_≡_};
 ghost use Rattle.newton.specs.Run as Run;
 
-pub fn from_mark(mark: Vector3, j: Jet) -> f64
+pub(crate) fn from_mark(mark: Vector3, j: Jet) -> f64
     ensures { λ r. ⌜ r ≡ Run.fromMark mark j ⌝ }
 {
     distance(point_of(j), mark)
@@ -79,7 +79,7 @@ fn step_of(mark: Vector3, j: Jet) -> Step
     )
 }
 
-pub fn into(i: Interval, x: f64) -> f64
+pub(crate) fn into(i: Interval, x: f64) -> f64
     ensures { λ r. ⌜ r ≡ Run.into i x ⌝ }
 {
     if i.periodic {
@@ -119,7 +119,7 @@ fn moved(x: f64, y: f64, next_x: f64, next_y: f64) -> Plan
     Plan::Probe(false, next_x, next_y)
 }
 
-pub fn plan_from(d: Domain, mark: Vector3, nudged: bool, x: f64, y: f64, j: Jet) -> Plan
+pub(crate) fn plan_from(d: Domain, mark: Vector3, nudged: bool, x: f64, y: f64, j: Jet) -> Plan
     ensures { λ r. ⌜ r ≡ Run.plan d mark nudged x y j ⌝ }
 {
     let Step::By(s, t) = step_of(mark, j) else {
@@ -129,7 +129,7 @@ pub fn plan_from(d: Domain, mark: Vector3, nudged: bool, x: f64, y: f64, j: Jet)
 }
 
 // A nudge is taken with no test of distance. An equal distance is no further.
-pub fn judge(
+pub(crate) fn judge(
     d: Domain,
     x: f64,
     y: f64,

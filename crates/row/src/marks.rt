@@ -16,14 +16,14 @@ ghost use Rattle.inverter.specs.Inverter.{placed};
 ghost use Rattle.row.specs.Row.{marksOf, misfit, inTurn, written};
 ghost use Rattle.row.specs.Turns.{markAt, fronted};
 
-pub fn misfit(coordinates: usize, room: usize) -> bool
+pub(crate) fn misfit(coordinates: usize, room: usize) -> bool
     ensures { λ r. ⌜ r ≡ misfit coordinates room ⌝ }
 {
     (coordinates % 3 != 0) | (room < 2 * (coordinates / 3))
 }
 
 // From the caller's hint, if there is one.
-pub fn place_marks(
+pub(crate) fn place_marks(
     shape: Shape,
     ku: &[f64],
     kv: &[f64],
