@@ -20,9 +20,9 @@ use Rattle.surface.specs.Surface.{Surface, surface, scaleOf, wrapped}
 use Rattle.inversion.specs.declared.Hint.{Hint}
 use Rattle.inversion.specs.declared.Hint.the-variants.{Nothing, At}
 use Rattle.inversion.specs.Inversion.{Answer, pair, inversionBy}
-use Rattle.inverter.specs.declared.Placing.{Placing}
-use Rattle.inverter.specs.declared.Placing.the-variants.{Pair, Refusal}
-use Rattle.inverter.specs.Inverter.{nearestTo}
+use Rattle.chart.specs.declared.Placing.{Placing}
+use Rattle.chart.specs.declared.Placing.the-variants.{Pair, Refusal}
+use Rattle.chart.specs.Chart.{nearestTo}
 use Rattle.inverter.specs.Preimage.{derived}
 use Rattle.inverter.specs.Compute.{compute}
 use Rattle.edges.specs.declared.Edge.{Edge}

@@ -21,7 +21,7 @@ pub fn of_nearest(words: &[u64], numbers: &[f64]) -> Outcome
     if words.len() < 3 {
         return Outcome::Unread;
     }
-    let shifted = [inverter::nearest(numbers[0], numbers[1], numbers[2])];
+    let shifted = [chart::nearest(numbers[0], numbers[1], numbers[2])];
     one_answer(answers::same_list(&shifted, &words[3..]))
 }
 

@@ -1,5 +1,5 @@
 // An answer of the port against a stored one.
-use inverter::Placing;
+use chart::Placing;
 
 // The refusal's number, or 0; the units left; then the pair.
 pub fn is_placing(placing: Placing, budget: u64, answer: &[u64]) -> bool {

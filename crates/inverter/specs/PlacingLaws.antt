@@ -18,10 +18,11 @@ use Rattle.inversion.specs.Inversion.{Answer, refusal, pair, told, spend, inver
 use Rattle.inversion.specs.Inversion as Inversion
 use Rattle.inversion.specs.PriceLaws.{spend-enough, spend-short}
 use Rattle.inversion.specs.SurfaceLaws.{price-bounds}
-use Rattle.inverter.specs.declared.Period.{Period}
-use Rattle.inverter.specs.declared.Placing.{Placing}
-use Rattle.inverter.specs.declared.Placing.the-variants.{Refusal}
-use Rattle.inverter.specs.Inverter.{soundSearch, nearestTo, turned, outcome, searched, onChecked, placed, numberOf, leftOf}
+use Rattle.chart.specs.declared.Period.{Period}
+use Rattle.chart.specs.declared.Placing.{Placing}
+use Rattle.chart.specs.declared.Placing.the-variants.{Refusal}
+use Rattle.chart.specs.Chart.{soundSearch, nearestTo, turned, outcome, searched, numberOf, leftOf}
+use Rattle.inverter.specs.Inverter.{onChecked, placed}
 
 -- ---- the budget
 

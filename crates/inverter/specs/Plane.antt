@@ -4,8 +4,8 @@ use mathlib.Core.Bool.{Bool, _&&_}
 use Rattle.vector3.specs.declared.Vector3.{Vector3}
 use Rattle.vector3.specs.Vector3.{sub, dot}
 use Rattle.patch.specs.Patch.{finiteVector}
-use Rattle.inverter.specs.declared.Placing.{Placing}
-use Rattle.inverter.specs.declared.Placing.the-variants.{Pair}
+use Rattle.chart.specs.declared.Placing.{Placing}
+use Rattle.chart.specs.declared.Placing.the-variants.{Pair}
 use Rattle.inverter.specs.declared.plane.Frame.{Frame}
 use Rattle.inverter.specs.Inverter.{charged}
 

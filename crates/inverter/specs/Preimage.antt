@@ -12,8 +12,8 @@ use Rattle.patch.specs.declared.Evaluated.the-variants.{Found, Refused}
 use Rattle.patch.specs.Patch.{finiteVector}
 use Rattle.surface.specs.Surface.{Surface, checked, evaluateBy}
 use Rattle.newton.specs.Run.{alongU, alongV}
-use Rattle.inverter.specs.declared.Placing.{Placing}
-use Rattle.inverter.specs.declared.Placing.the-variants.{Pair, Refusal}
+use Rattle.chart.specs.declared.Placing.{Placing}
+use Rattle.chart.specs.declared.Placing.the-variants.{Pair, Refusal}
 use Rattle.inverter.specs.Inverter.{onChecked, charged}
 
 -- by Cramer's rule. Refused where the determinant is not finite or at most 1e-24 of a and c multiplied, which is not a run's test.

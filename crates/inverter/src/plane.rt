@@ -1,6 +1,6 @@
 // A mark on a plane.
-use crate::Placing;
-use crate::search::finite_vector;
+use chart::Placing;
+use chart::finite_vector;
 use vector3::Vector3;
 use vector3::dot;
 use vector3::sub;

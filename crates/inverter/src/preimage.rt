@@ -1,6 +1,6 @@
 // How u and v move as a surface point moves by a vector.
-use crate::Placing;
-use crate::search::finite_vector;
+use chart::Placing;
+use chart::finite_vector;
 use newton::along_u;
 use newton::along_v;
 use patch::Evaluated;

@@ -11,7 +11,7 @@ use Rattle.digits.specs.Text.{Put, written}
 use Rattle.surface.specs.declared.Shape.{Shape}
 use Rattle.surface.specs.Surface.{surface}
 use Rattle.inversion.specs.declared.Hint.the-variants.{Nothing}
-use Rattle.inverter.specs.declared.Period.the-variants.{Free}
+use Rattle.chart.specs.declared.Period.the-variants.{Free}
 use Rattle.row.specs.Row.{rowed}
 use Rattle.job_lines.specs.Lines.{marksLine, refusedLine}
 use Rattle.job_format.specs.declared.Layout.{Layout}

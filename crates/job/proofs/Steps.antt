@@ -16,11 +16,12 @@ use Rattle.surface.specs.Surface.{Surface, orElse, refusalOfSurface, checked}
 use Rattle.surface.specs.SurfaceLaws.{checked-scale}
 use Rattle.inversion.specs.declared.Hint.{Hint}
 use Rattle.inversion.specs.declared.Hint.the-variants.{Nothing, At}
-use Rattle.inverter.specs.declared.Period.{Period}
-use Rattle.inverter.specs.declared.Period.the-variants.{Free}
-use Rattle.inverter.specs.declared.Placing.{Placing}
-use Rattle.inverter.specs.declared.Placing.the-variants.{Pair, Refusal}
-use Rattle.inverter.specs.Inverter.{soundTerms, soundSearch, searched, onChecked, placed}
+use Rattle.chart.specs.declared.Period.{Period}
+use Rattle.chart.specs.declared.Period.the-variants.{Free}
+use Rattle.chart.specs.declared.Placing.{Placing}
+use Rattle.chart.specs.declared.Placing.the-variants.{Pair, Refusal}
+use Rattle.chart.specs.Chart.{soundTerms, soundSearch, searched}
+use Rattle.inverter.specs.Inverter.{onChecked, placed}
 use Rattle.row.specs.Row.{refusedAt, andThen, inTurn, unlessRefused, rowed}
 use Rattle.row.specs.RowLaws.{takenOf, Places, Numbers, placed-taken, placed-numbers, refusal-number}
 use Rattle.job_lines.specs.Lines.{pairLine, refusedLine}

@@ -5,7 +5,7 @@ use Prim.Native.Nat.{ℕ, _<_}
 use lib.ListN.{length}
 use Rattle.digits.specs.Text.{ascii, digit, digits, placesIn, decimal}
 use Rattle.inversion.specs.declared.Hint.the-variants.{Nothing}
-use Rattle.inverter.specs.declared.Period.the-variants.{Free}
+use Rattle.chart.specs.declared.Period.the-variants.{Free}
 use Rattle.row.specs.Row.{rowed}
 use Rattle.job_lines.specs.Lines.{marksLine, refusedLine}
 use Rattle.job_format.specs.Format.{malformed, read, Job, parse}

@@ -3,7 +3,7 @@ use mathlib.Core.List.{List, [], _∷_, _++_}
 use Prim.Native.Nat.{ℕ}
 use lib.ListN.{length}
 use Rattle.inversion.specs.declared.Hint.the-variants.{Nothing}
-use Rattle.inverter.specs.declared.Period.the-variants.{Free}
+use Rattle.chart.specs.declared.Period.the-variants.{Free}
 use Rattle.row.specs.declared.Ended.{Ended}
 use Rattle.row.specs.declared.Ended.the-variants as Ended
 use Rattle.row.specs.Row.{Placed, Rowed, rowed}

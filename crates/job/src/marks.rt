@@ -1,8 +1,8 @@
 // The marks of a job, one after another, on a surface that passed its checks.
+use chart::Period;
+use chart::Placing;
+use chart::invert_checked;
 use inversion::Hint;
-use inverter::Period;
-use inverter::Placing;
-use inverter::invert_checked;
 use job_format::mark_at;
 use job_lines::put_pair;
 use job_lines::put_refusal;
@@ -15,7 +15,7 @@ ghost use Rattle.digits.specs.Text.{Put};
 ghost use Rattle.surface.specs.declared.Checked.the-variants.{Scale};
 ghost use Rattle.surface.specs.Surface.{surface, checked};
 ghost use Rattle.inversion.specs.declared.Hint.the-variants.{Nothing};
-ghost use Rattle.inverter.specs.declared.Period.the-variants.{Free};
+ghost use Rattle.chart.specs.declared.Period.the-variants.{Free};
 ghost use Rattle.inverter.specs.Inverter.{placed};
 ghost use Rattle.row.specs.Row.{inTurn};
 ghost use Rattle.job_format.specs.Offsets.{marksAt};

@@ -1,8 +1,8 @@
 // A job whose numbers are decoded.
 use crate::marks::print_marks;
+use chart::Period;
+use chart::sound_terms;
 use inversion::Hint;
-use inverter::Period;
-use inverter::sound_terms;
 use job_format::controls;
 use job_format::knots;
 use job_format::number_at;
@@ -18,7 +18,7 @@ ghost use Rattle.digits.specs.Text.{Put};
 ghost use Rattle.surface.specs.declared.Checked.the-variants.{Scale};
 ghost use Rattle.surface.specs.Surface.{surface, checked};
 ghost use Rattle.inversion.specs.declared.Hint.the-variants.{Nothing};
-ghost use Rattle.inverter.specs.declared.Period.the-variants.{Free};
+ghost use Rattle.chart.specs.declared.Period.the-variants.{Free};
 ghost use Rattle.row.specs.Row.{rowed};
 ghost use Rattle.job_format.specs.Offsets.{Fits, count, floatsAt, marksAt, jobAt};
 ghost use Rattle.job.specs.Printout.{rowLines, jobLines};

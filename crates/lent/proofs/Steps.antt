@@ -10,10 +10,10 @@ use Rattle.patch.specs.declared.Jet.{Jet}
 use Rattle.surface.specs.declared.Evaluation.{Evaluation}
 use Rattle.surface.specs.declared.Evaluation.the-variants as Evaluation
 use Rattle.inversion.specs.declared.Hint.the-variants.{Nothing, At}
-use Rattle.inverter.specs.declared.Period.the-variants.{Free, Every}
-use Rattle.inverter.specs.declared.Placing.{Placing}
-use Rattle.inverter.specs.declared.Placing.the-variants.{Pair, Refusal}
-use Rattle.inverter.specs.Inverter.{numberOf, leftOf}
+use Rattle.chart.specs.declared.Period.the-variants.{Free, Every}
+use Rattle.chart.specs.declared.Placing.{Placing}
+use Rattle.chart.specs.declared.Placing.the-variants.{Pair, Refusal}
+use Rattle.chart.specs.Chart.{numberOf, leftOf}
 use Rattle.row.specs.RowLaws.{takenOf}
 use Rattle.lent.specs.Lent.{Evaluates, Places, hintOf, periodOf, numbersOf, jetInto, pairInto, leftInto, placingInto}
 

@@ -1,5 +1,5 @@
 // An answer, written to what the caller lent.
-use inverter::Placing;
+use chart::Placing;
 use surface::Evaluation;
 ghost use mathlib.Core.Path.{_≡_};
 ghost use Prim.Native.Nat.{_≤_};

@@ -1,6 +1,6 @@
 // A caller's numbers, and whether they fit: flags, and the counts of what is lent.
+use chart::Period;
 use inversion::Hint;
-use inverter::Period;
 use surface::Counts;
 use surface::Shape;
 ghost use mathlib.Core.Path.{_≡_};

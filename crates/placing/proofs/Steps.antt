@@ -11,8 +11,8 @@ use Rattle.surface.specs.declared.Shape.{Shape}
 use Rattle.surface.specs.declared.Evaluation.{Evaluation}
 use Rattle.surface.specs.Surface.{surface, evaluated}
 use Rattle.inversion.specs.declared.Hint.{Hint}
-use Rattle.inverter.specs.declared.Period.{Period}
-use Rattle.inverter.specs.declared.Placing.{Placing}
+use Rattle.chart.specs.declared.Period.{Period}
+use Rattle.chart.specs.declared.Placing.{Placing}
 use Rattle.inverter.specs.Inverter.{placed}
 use Rattle.inverter.specs.Preimage.{derived}
 use Rattle.row.specs.declared.Ended.{Ended}

@@ -7,7 +7,7 @@ use lib.Ieee.{Float}
 use Rattle.vector3.specs.declared.Vector3.{Vector3}
 use Rattle.surface.specs.declared.Evaluation.{Evaluation}
 use Rattle.surface.specs.Surface.{Surface, evaluated}
-use Rattle.inverter.specs.declared.Placing.{Placing}
+use Rattle.chart.specs.declared.Placing.{Placing}
 use Rattle.inverter.specs.declared.plane.Frame.{Frame}
 use Rattle.inverter.specs.Inverter.{placed}
 use Rattle.inverter.specs.Plane.{placedOn}

@@ -15,10 +15,11 @@ use Rattle.surface.specs.Surface.{Surface, orElse, refusalOfSurface, checked}
 use Rattle.surface.specs.SurfaceLaws.{checked-scale}
 use Rattle.inversion.specs.declared.Hint.{Hint}
 use Rattle.inversion.specs.declared.Hint.the-variants.{At}
-use Rattle.inverter.specs.declared.Period.{Period}
-use Rattle.inverter.specs.declared.Placing.{Placing}
-use Rattle.inverter.specs.declared.Placing.the-variants.{Pair, Refusal}
-use Rattle.inverter.specs.Inverter.{soundTerms, soundSearch, searched, onChecked, placed}
+use Rattle.chart.specs.declared.Period.{Period}
+use Rattle.chart.specs.declared.Placing.{Placing}
+use Rattle.chart.specs.declared.Placing.the-variants.{Pair, Refusal}
+use Rattle.chart.specs.Chart.{soundTerms, soundSearch, searched}
+use Rattle.inverter.specs.Inverter.{onChecked, placed}
 use Rattle.row.specs.declared.Ended.{Ended}
 use Rattle.row.specs.declared.Ended.the-variants as Ended
 use Rattle.row.specs.Row.{Placed, Rowed, marksOf, refusedAt, led, andThen, inTurn, unlessRefused, rowed, misfit, rowInto, numbersOf, written}

@@ -9,10 +9,11 @@ use Rattle.vector3.specs.declared.Vector3.{Vector3}
 use Rattle.surface.specs.Surface.{Surface, orElse, when, refusalOfSurface}
 use Rattle.inversion.specs.declared.Hint.{Hint}
 use Rattle.inversion.specs.declared.Hint.the-variants.{At}
-use Rattle.inverter.specs.declared.Period.{Period}
-use Rattle.inverter.specs.declared.Placing.{Placing}
-use Rattle.inverter.specs.declared.Placing.the-variants.{Pair, Refusal}
-use Rattle.inverter.specs.Inverter.{soundTerms, placed}
+use Rattle.chart.specs.declared.Period.{Period}
+use Rattle.chart.specs.declared.Placing.{Placing}
+use Rattle.chart.specs.declared.Placing.the-variants.{Pair, Refusal}
+use Rattle.chart.specs.Chart.{soundTerms}
+use Rattle.inverter.specs.Inverter.{placed}
 use Rattle.row.specs.declared.Ended.{Ended}
 use Rattle.row.specs.declared.Ended.the-variants as Ended
 

@@ -23,11 +23,12 @@ use Rattle.inversion.specs.InversionLaws.{Pairs}
 use Rattle.inversion.specs.Nearest.{All}
 use Rattle.inversion.specs.PriceLaws.{spend-enough, spend-short}
 use Rattle.inversion.specs.SurfaceLaws.{pair-number}
-use Rattle.inverter.specs.declared.Period.{Period}
-use Rattle.inverter.specs.declared.Period.the-variants.{Free}
-use Rattle.inverter.specs.declared.Placing.{Placing}
-use Rattle.inverter.specs.declared.Placing.the-variants.{Pair, Refusal}
-use Rattle.inverter.specs.Inverter.{soundSearch, shifted, turned, outcome, searched, onChecked, placed}
+use Rattle.chart.specs.declared.Period.{Period}
+use Rattle.chart.specs.declared.Period.the-variants.{Free}
+use Rattle.chart.specs.declared.Placing.{Placing}
+use Rattle.chart.specs.declared.Placing.the-variants.{Pair, Refusal}
+use Rattle.chart.specs.Chart.{soundSearch, shifted, turned, outcome, searched}
+use Rattle.inverter.specs.Inverter.{onChecked, placed}
 use Rattle.row.specs.Row.{Placed, Rowed, marksOf, andThen, inTurn, unlessRefused, rowed, misfit, rowInto, numbersOf, written, numberOf, indexOf, leftOf}
 
 -- ---- a placing takes no more than its budget

@@ -4,8 +4,8 @@ use mathlib.Core.List.{List, _∷_}
 use lib.ListN.{drop, getD}
 use lib.Ieee.{Float, nan}
 use Rattle.vector3.specs.declared.Vector3.{Vector3}
-use Rattle.inverter.specs.declared.Placing.{Placing}
-use Rattle.inverter.specs.declared.Placing.the-variants.{Pair, Refusal}
+use Rattle.chart.specs.declared.Placing.{Placing}
+use Rattle.chart.specs.declared.Placing.the-variants.{Pair, Refusal}
 
 abbrev pub markAt : List Float → ℕ → Vector3
 markAt ms i = record { x = getD ms (3 * i) nan; y = getD ms (3 * i + 1) nan; z = getD ms (3 * i + 2) nan }

@@ -1,9 +1,9 @@
 // A row of marks on one surface: each answer is the hint of the next mark, and one budget serves all.
 mod marks;
 
+use chart::Period;
+use chart::sound_terms;
 use inversion::Hint;
-use inverter::Period;
-use inverter::sound_terms;
 use marks::misfit;
 use marks::place_marks;
 use surface::Checked;

@@ -1,9 +1,9 @@
 // The marks of a row, one after another.
 use crate::Ended;
+use chart::Period;
+use chart::Placing;
+use chart::invert_checked;
 use inversion::Hint;
-use inverter::Period;
-use inverter::Placing;
-use inverter::invert_checked;
 use surface::Shape;
 use vector3::Vector3;
 ghost use mathlib.Core.Path.{_≡_};

@@ -3,8 +3,8 @@ use Prim.Native.Nat.{ℕ, zero, suc}
 use lib.Ieee.{Float}
 use Rattle.inversion.specs.declared.Hint.{Hint}
 use Rattle.inversion.specs.declared.Hint.the-variants.{Nothing, At}
-use Rattle.inverter.specs.declared.Period.{Period}
-use Rattle.inverter.specs.declared.Period.the-variants.{Free, Every}
+use Rattle.chart.specs.declared.Period.{Period}
+use Rattle.chart.specs.declared.Period.the-variants.{Free, Every}
 
 unfoldable pub hintBy : ℕ → Float → Float → Hint
 hintBy zero u v = Nothing

@@ -1,6 +1,6 @@
 // The part of a record that says where a search begins, and the period of an axis.
+use chart::Period;
 use inversion::Hint;
-use inverter::Period;
 ghost use mathlib.Core.Path.{_≡_};
 ghost use Rattle.search_records.specs.Search.{hintBy, periodBy};
 

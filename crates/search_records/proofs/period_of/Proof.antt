@@ -1,7 +1,7 @@
 use mathlib.Core.Path.{_≡_, refl}
 use Prim.Native.Nat.{ℕ, zero, suc}
 use lib.Ieee.{Float}
-use Rattle.inverter.specs.declared.Period.the-variants.{Every}
+use Rattle.chart.specs.declared.Period.the-variants.{Every}
 use Rattle.search_records.specs.Search.{periodBy}
 use Rattle.search_records.proofs.period_of.Statement.{statement}
 use Rattle.search_records.proofs.period_of.Tie as tie

@@ -4,8 +4,8 @@ use Rattle.vector3.specs.declared.Vector3.{Vector3}
 use Rattle.patch.specs.declared.Jet.{Jet}
 use Rattle.patch.specs.declared.Evaluated.{Evaluated}
 use Rattle.patch.specs.declared.Evaluated.the-variants.{Found, Refused}
-use Rattle.inverter.specs.declared.Placing.{Placing}
-use Rattle.inverter.specs.declared.Placing.the-variants.{Refusal}
+use Rattle.chart.specs.declared.Placing.{Placing}
+use Rattle.chart.specs.declared.Placing.the-variants.{Refusal}
 use Rattle.inverter.specs.Preimage.{moved, movedFrom, derivedOn}
 use Rattle.inverter.proofs.Steps.{unsound, unpaid, paid}
 use borrow.Author.Needs.{needs}

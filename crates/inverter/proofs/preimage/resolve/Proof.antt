@@ -6,7 +6,7 @@ use lib.Ieee.{Float, le}
 use borrow.Author.Needs.{needs}
 use Rattle.float64.specs.Operators.{_⊖_, _⊗_, _⊘_, 1e-24}
 use Rattle.float64.specs.Functions.{isFinite}
-use Rattle.inverter.specs.declared.Placing.the-variants.{Pair}
+use Rattle.chart.specs.declared.Placing.the-variants.{Pair}
 use Rattle.inverter.specs.Preimage.{resolved}
 use Rattle.inverter.proofs.preimage.resolve.Statement.{statement}
 use Rattle.inverter.proofs.preimage.resolve.Tie as tie

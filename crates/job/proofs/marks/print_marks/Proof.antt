@@ -5,7 +5,7 @@ use native.Mathlib.Omega.{arith}
 use lib.ListN.{length}
 use Rattle.surface.specs.Surface.{surface}
 use Rattle.inversion.specs.declared.Hint.the-variants.{Nothing}
-use Rattle.inverter.specs.declared.Period.the-variants.{Free}
+use Rattle.chart.specs.declared.Period.the-variants.{Free}
 use Rattle.row.specs.Row.{inTurn}
 use Rattle.job_format.specs.Offsets.{marksAt}
 use Rattle.job.specs.Printout.{rowLines}

@@ -1,7 +1,7 @@
-use Rattle.inverter.specs.Inverter.{soundTerms}
+use Rattle.chart.specs.Chart.{soundTerms}
 use borrow.Author.Needs.{needs}
-use Rattle.inverter.proofs.search.sound_terms.Statement.{statement}
-use Rattle.inverter.proofs.search.sound_terms.Tie as tie
+use Rattle.chart.proofs.search.sound_terms.Statement.{statement}
+use Rattle.chart.proofs.search.sound_terms.Tie as tie
 
 sound-hint-requires : tie.Need-sound-hint-requires
 sound-hint-requires c κs = search needs

@@ -1,7 +1,7 @@
-use Rattle.inverter.specs.Inverter.{shifted}
+use Rattle.chart.specs.Chart.{shifted}
 use borrow.Author.Needs.{needs}
-use Rattle.inverter.proofs.search.shift.Statement.{statement}
-use Rattle.inverter.proofs.search.shift.Tie as tie
+use Rattle.chart.proofs.search.shift.Statement.{statement}
+use Rattle.chart.proofs.search.shift.Tie as tie
 
 enum-told : tie.Need-enum-told
 enum-told c = search needs

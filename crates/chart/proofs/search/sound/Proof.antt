@@ -1,7 +1,7 @@
-use Rattle.inverter.specs.Inverter.{soundSearch}
+use Rattle.chart.specs.Chart.{soundSearch}
 use borrow.Author.Needs.{needs}
-use Rattle.inverter.proofs.search.sound.Statement.{statement}
-use Rattle.inverter.proofs.search.sound.Tie as tie
+use Rattle.chart.proofs.search.sound.Statement.{statement}
+use Rattle.chart.proofs.search.sound.Tie as tie
 
 finite-vector-requires : tie.Need-finite-vector-requires
 finite-vector-requires c κs = search needs

@@ -1,7 +1,7 @@
 use Rattle.patch.specs.Patch.{finiteVector}
 use borrow.Author.Needs.{needs}
-use Rattle.inverter.proofs.search.finite_vector.Statement.{statement}
-use Rattle.inverter.proofs.search.finite_vector.Tie as tie
+use Rattle.chart.proofs.search.finite_vector.Statement.{statement}
+use Rattle.chart.proofs.search.finite_vector.Tie as tie
 
 is-finite-requires : tie.Need-is-finite-requires
 is-finite-requires c κs = search needs

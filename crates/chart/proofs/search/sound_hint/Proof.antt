@@ -1,7 +1,7 @@
-use Rattle.inverter.specs.Inverter.{soundHint}
+use Rattle.chart.specs.Chart.{soundHint}
 use borrow.Author.Needs.{needs}
-use Rattle.inverter.proofs.search.sound_hint.Statement.{statement}
-use Rattle.inverter.proofs.search.sound_hint.Tie as tie
+use Rattle.chart.proofs.search.sound_hint.Statement.{statement}
+use Rattle.chart.proofs.search.sound_hint.Tie as tie
 
 enum-told : tie.Need-enum-told
 enum-told c = search needs

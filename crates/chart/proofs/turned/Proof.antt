@@ -1,7 +1,7 @@
-use Rattle.inverter.specs.Inverter.{turned}
+use Rattle.chart.specs.Chart.{turned}
 use borrow.Author.Needs.{needs}
-use Rattle.inverter.proofs.turned.Statement.{statement}
-use Rattle.inverter.proofs.turned.Tie as tie
+use Rattle.chart.proofs.turned.Statement.{statement}
+use Rattle.chart.proofs.turned.Tie as tie
 
 enum-told : tie.Need-enum-told
 enum-told c = search needs

@@ -1,9 +1,9 @@
 use borrow.Author.Tests.{not-true, not-false}
 use mathlib.Core.Path.{sym, _∙_}
-use Rattle.inverter.proofs.Steps.{mark-finite, not-sound, found}
+use Rattle.chart.proofs.Steps.{mark-finite, not-sound, found}
 use borrow.Author.Needs.{needs}
-use Rattle.inverter.proofs.invert_checked.Statement.{statement}
-use Rattle.inverter.proofs.invert_checked.Tie as tie
+use Rattle.chart.proofs.invert_checked.Statement.{statement}
+use Rattle.chart.proofs.invert_checked.Tie as tie
 
 sound-requires : tie.Need-sound-requires
 sound-requires c κs = search needs

@@ -1,7 +1,7 @@
-use Rattle.inverter.specs.Inverter.{outcome}
+use Rattle.chart.specs.Chart.{outcome}
 use borrow.Author.Needs.{needs}
-use Rattle.inverter.proofs.outcome.Statement.{statement}
-use Rattle.inverter.proofs.outcome.Tie as tie
+use Rattle.chart.proofs.outcome.Statement.{statement}
+use Rattle.chart.proofs.outcome.Tie as tie
 
 enum-known-inverted : tie.Need-enum-known-inverted
 enum-known-inverted c = search needs

@@ -1,7 +1,7 @@
-use Rattle.inverter.specs.Inverter.{nearestTo}
+use Rattle.chart.specs.Chart.{nearestTo}
 use borrow.Author.Needs.{needs}
-use Rattle.inverter.proofs.search.nearest.Statement.{statement}
-use Rattle.inverter.proofs.search.nearest.Tie as tie
+use Rattle.chart.proofs.search.nearest.Statement.{statement}
+use Rattle.chart.proofs.search.nearest.Tie as tie
 
 round-requires : tie.Need-round-requires
 round-requires c κs = search needs

@@ -3,7 +3,7 @@ use crate::Period;
 use inversion::Hint;
 use vector3::Vector3;
 ghost use mathlib.Core.Path.{_≡_};
-ghost use Rattle.inverter.specs.Inverter.{nearestTo, shifted, soundHint, soundPeriod, soundTerms, soundSearch};
+ghost use Rattle.chart.specs.Chart.{nearestTo, shifted, soundHint, soundPeriod, soundTerms, soundSearch};
 ghost use Rattle.patch.specs.Patch.{finiteVector};
 
 // The number equal to `value` but for a whole number of periods that is nearest to `hint`.
