@@ -5,6 +5,8 @@ mod square_root;
 pub use integral::round;
 pub use square_root::root;
 ghost use mathlib.Core.Path.{_≡_};
+ghost use mathlib.Core.Bool.{false};
+ghost use lib.Ieee.{isNan};
 ghost use Rattle.float64.specs.Functions as Functions;
 
 pub fn is_finite(x: f64) -> bool
@@ -35,6 +37,17 @@ pub fn max(x: f64, y: f64) -> f64
     }
     if x < y {
         return y;
+    }
+    x
+}
+
+// The same where x is a number, in one step of the machine.
+pub fn larger(x: f64, other: f64) -> f64
+    requires { ⌜ isNan x ≡ false ⌝ }
+    ensures { λ r. ⌜ (r ≡ Functions.max x other) × (isNan r ≡ false) ⌝ }
+{
+    if x < other {
+        return other;
     }
     x
 }

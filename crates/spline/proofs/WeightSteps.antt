@@ -1,20 +1,21 @@
 -- What each branch of the check of weights shows, over plain values. Assumes nothing.
 use mathlib.Core.Path.{_≡_, refl, sym, ap, _∙_}
-use mathlib.Core.Bool.{Bool, true, false, not, cond, _&&_, or-true}
+use mathlib.Core.Bool.{Bool, true, false, not, cond, _&&_, _||_, or-true, Bool·not-not}
 use mathlib.Core.List.{List, [], _∷_}
 use Prim.Native.Nat.{ℕ, _+_, _≤_, _<_}
 use native.Mathlib.Numerals.{add-one}
 use native.Mathlib.Omega.{arith}
 use lib.ListN.{length, drop, getD, drop-of-length-le}
 use lib.Seq.{drop-cons}
-use lib.Ieee.{Float, nan, lt, le}
+use lib.Ieee.{Float, nan, lt, le, eq}
 use borrow.Author.Tests.{not-true, not-false}
-use Rattle.float64.specs.Operators.{0·}
+use Rattle.float64.specs.Operators.{_⊘_, 0·}
 use Rattle.float64.specs.Functions.{isFinite, max}
 use Rattle.spline.specs.declared.weights.Weighed.{Weighed}
 use Rattle.spline.specs.declared.weights.Weighed.the-variants.{Scale, Refused}
 use Rattle.spline.specs.Weights.{sound, largest, vanishing, isEmpty, weighed}
-use Rattle.spline.specs.WeightLaws.{above-zero, scale-of, refused-of}
+use Rattle.spline.specs.WeightLaws.{above-zero, scale-of, refused-of, neither, kept-each}
+use Rattle.spline.specs.Each.{tells-more, tells-all}
 
 -- ---- one weight
 pub not-finite : (w : Float) → isFinite w ≡ false → (isFinite w && lt 0· w) ≡ false
@@ -36,6 +37,14 @@ module _ (ws : List Float) where
   pub walked-sound : (m : Float) (i : ℕ) → sound ws ≡ true → largest 0· ws ≡ largest m (drop i ws) → length ws ≤ i → Scale m ≡ cond (not (sound ws)) Refused (Scale (largest 0· ws))
   unfolding largest
   walked-sound m i s e h = simp (s, e, drop-of-length-le ws h)
+
+-- ---- those that vanish
+module _ (m : Float) (ws : List Float) (i : ℕ) (b : Bool) (e : not (vanishing m ws) ≡ (not b && not (vanishing m (drop i ws)))) where
+  pub vanishing-more : i < length ws → not (vanishing m ws) ≡ (not (b || eq (getD ws i nan ⊘ m) 0·) && not (vanishing m (drop (i + 1) ws)))
+  vanishing-more h = tells-more (kept-each m) ws i (not b) e h ∙ ap (λ (t : Bool). t && not (vanishing m (drop (i + 1) ws))) (sym (neither b _))
+
+  pub vanishing-any : length ws ≤ i → b ≡ vanishing m ws
+  vanishing-any h = sym (Bool·not-not b) ∙ ap not (tells-all (kept-each m) ws i (not b) e h) ∙ Bool·not-not _
 
 -- ---- the answer
 empty : (ws : List Float) → length ws ≡ 0 → isEmpty ws ≡ true

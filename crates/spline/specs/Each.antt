@@ -1,6 +1,6 @@
 -- A test of a list that is a test of each element, with what comes after it. Assumes nothing.
 use mathlib.Core.Path.{_≡_, sym, ap, _∙_}
-use mathlib.Core.Bool.{Bool, true, false, _&&_, and-eq-true-iff}
+use mathlib.Core.Bool.{Bool, true, false, _&&_, and-eq-true-iff, and-assoc, and-true}
 use mathlib.Core.List.{List, [], _∷_}
 use Prim.Native.Nat.{ℕ, zero, suc, _+_, _≤_, _<_}
 use native.Mathlib.Numerals.{add-one}
@@ -39,3 +39,11 @@ module _ {one : Float → List Float → Bool} {all : List Float → Bool} (each
 
     pub goes : one (getD xs i nan) (drop (i + 1) xs) ≡ true → all xs ≡ all (drop (i + 1) xs)
     goes t = step ∙ simp t
+
+  -- A walk that does not stop: b tells whether all before i pass.
+  module _ (xs : List Float) (i : ℕ) (b : Bool) (e : all xs ≡ (b && all (drop i xs))) where
+    pub tells-more : i < length xs → all xs ≡ ((b && one (getD xs i nan) (drop (i + 1) xs)) && all (drop (i + 1) xs))
+    tells-more h = e ∙ ap (λ (t : Bool). b && t) (ap all (drop-cons xs i nan h) ∙ rw add-one (each .more _ _)) ∙ sym (and-assoc b _ _)
+
+    pub tells-all : length xs ≤ i → b ≡ all xs
+    tells-all h = sym (e ∙ ap (λ (t : Bool). b && t) (ap all (drop-of-length-le xs h) ∙ each .none) ∙ and-true b)

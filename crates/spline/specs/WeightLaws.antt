@@ -25,7 +25,7 @@ sound-each = record { none = refl; more = λ w ws. refl }
 abbrev pub keptOne : Float → Float → List Float → Bool
 keptOne m w ws = not (eq (w ⊘ m) 0·)
 
-neither : (p q : Bool) → not (p || q) ≡ (not p && not q)
+pub neither : (p q : Bool) → not (p || q) ≡ (not p && not q)
 neither true q = refl
 neither false q = refl
 

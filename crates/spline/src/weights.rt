@@ -40,19 +40,18 @@ fn largest_weight(weights: &[f64]) -> Weighed
         if w <= 0.0 {
             return Weighed::Refused;
         }
-        max = float64::max(max, w);
+        max = float64::larger(max, w);
     }
     Weighed::Scale(max)
 }
 
-// Whether a weight divided by max is 0.
+// Whether a weight divided by max is 0. All are divided, two at a time, since none is as a rule.
 fn any_vanishes(weights: &[f64], max: f64) -> bool
     ensures { λ r. ⌜ r ≡ vanishing max (now (weights .entry)) ⌝ }
 {
+    let mut any = false;
     for i in 0..weights.len() {
-        if weights[i] / max == 0.0 {
-            return true;
-        }
+        any = any | (weights[i] / max == 0.0);
     }
-    false
+    any
 }

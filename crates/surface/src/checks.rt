@@ -31,12 +31,11 @@ fn product(a: usize, b: usize) -> usize
 fn all_finite(controls: &[f64]) -> bool
     ensures { λ r. ⌜ r ≡ allFinite (now (controls .entry)) ⌝ }
 {
+    let mut all = true;
     for i in 0..controls.len() {
-        if !is_finite(controls[i]) {
-            return false;
-        }
+        all = all & is_finite(controls[i]);
     }
-    true
+    all
 }
 
 // The checks of `NurbsSurface::new`, and that the controls are finite, three coordinates each.

@@ -1,6 +1,6 @@
 // The sums over a patch: its controls, combined by their weights and by the functions of the two axes.
 use crate::Shape;
-use float64::max;
+use float64::larger;
 use patch::Derivatives;
 use patch::Evaluated;
 use patch::Sums;
@@ -9,10 +9,11 @@ use patch::rational;
 use patch::with;
 use vector3::Vector3;
 ghost use mathlib.Core.Path.{_≡_};
+ghost use mathlib.Core.Bool.{false};
 ghost use mathlib.Core.List.{List, [], _++_};
 ghost use Prim.Native.Nat.{_+_, _*_, _≤_, _<_};
 ghost use lib.ListN.{length, take, drop};
-ghost use lib.Ieee.{Float};
+ghost use lib.Ieee.{Float, isNan};
 ghost use Rattle.float64.specs.Operators.{0·};
 ghost use Rattle.basis.specs.Basis.{threes};
 ghost use Rattle.patch.specs.Patch.{threeOf, emptySums};
@@ -30,14 +31,14 @@ fn scale_along(
     net: &mut [f64; 289],
     from: usize,
 ) -> f64
-    requires { ⌜ (at + count ≤ length (now weights)) × (from + count ≤ 289) × (length (now net) ≡ 289) ⌝ }
-    ensures { λ r. ⌜ (r ≡ heaviestAlong (lent [] (now (weights .entry)) 0) scale (counted count) at w) × (take (from + count) (now (net .exit)) ≡ take from (now (net .entry)) ++ scaledAlong (now (weights .entry)) scale count at) × (length (now (net .exit)) ≡ 289) ⌝ }
+    requires { ⌜ (at + count ≤ length (now weights)) × (from + count ≤ 289) × (length (now net) ≡ 289) × (isNan w ≡ false) ⌝ }
+    ensures { λ r. ⌜ (r ≡ heaviestAlong (lent [] (now (weights .entry)) 0) scale (counted count) at w) × (take (from + count) (now (net .exit)) ≡ take from (now (net .entry)) ++ scaledAlong (now (weights .entry)) scale count at) × (length (now (net .exit)) ≡ 289) × (isNan r ≡ false) ⌝ }
 {
     let mut most = w;
     for j in 0..count {
         let scaled = weights[at + j] / scale;
         net[from + j] = scaled;
-        most = max(most, scaled);
+        most = larger(most, scaled);
     }
     most
 }

@@ -2,10 +2,13 @@
 use Prim.Native.Nat.{_≤_, _-_}
 use mathlib.Core.Path.{_≡_, sym, _∙_}
 use native.Mathlib.Omega.{arith}
+use mathlib.Core.Bool.{false}
 use lib.ListN.{length, drop}
+use lib.Ieee.{isNan}
 use borrow.Author.Tests.{not-true, not-false}
 use borrow.Author.Needs.{needs}
 use Rattle.float64.specs.Operators.{0·}
+use Rattle.float64.specs.Nonneg.{nonneg→number, zero-nonneg}
 use Rattle.spline.specs.Weights.{sound, largest}
 use Rattle.spline.specs.Each.{stops, goes, walked}
 use Rattle.spline.specs.WeightLaws.{sound-each}
@@ -14,13 +17,13 @@ use Rattle.spline.proofs.weights.largest_weight.Statement.{statement}
 use Rattle.spline.proofs.weights.largest_weight.Tie as tie
 
 abbrev Inv-loop : tie.InvT-loop
-Inv-loop weights max₀ i₀ i-end max i = (i ≤ length weights) × (i-end ≡ length weights) × (sound weights ≡ sound (drop i weights)) × (largest 0· weights ≡ largest max (drop i weights))
+Inv-loop weights max₀ i₀ i-end max i = (i ≤ length weights) × (i-end ≡ length weights) × (sound weights ≡ sound (drop i weights)) × (largest 0· weights ≡ largest max (drop i weights)) × (isNan max ≡ false)
 
 abbrev μ-loop : tie.MeasureT-loop
 μ-loop weights max₀ i₀ i-end max i = length weights - i
 
 loop-holds : tie.Need-loop-holds Inv-loop μ-loop
-loop-holds c = search needs
+loop-holds c = (omega arith, search needs, search needs, search needs, nonneg→number zero-nonneg)
 
 mul-w : tie.Need-mul-w Inv-loop μ-loop
 mul-w c = search needs
@@ -37,8 +40,8 @@ returns c = unsound _ (stops sound-each _ _ (c .before .before .before .before .
 returns-2 : tie.Need-returns-2 Inv-loop μ-loop
 returns-2 c = unsound _ (stops sound-each _ _ (c .before .before .before .before .before .loop .inv .2) (omega arith) (finite-above _ _ (sym (c .before .before .is-finite .ensures) ∙ not-false _ (c .before .if1 .left)) (c .if2 .taken)))
 
-max-requires : tie.Need-max-requires Inv-loop μ-loop
-max-requires c κs = search needs
+larger-requires : tie.Need-larger-requires Inv-loop μ-loop
+larger-requires c κs = c .before .before .before .before .before .loop .inv .4
 
 add-i : tie.Need-add-i Inv-loop μ-loop
 add-i c = search needs
@@ -51,7 +54,8 @@ loop-again c = (
   omega arith,
   omega arith,
   goes sound-each _ _ (c .before .before .before .before .before .before .loop .inv .2) (omega arith) (finite-above _ _ (sym (c .before .before .before .is-finite .ensures) ∙ not-false _ (c .before .before .if1 .left)) (c .before .if2 .left)),
-  largest-more _ _ _ _ (c .before .before .before .before .before .before .loop .inv .3) (omega arith) (c .max .ensures),
+  largest-more _ _ _ _ (c .before .before .before .before .before .before .loop .inv .3) (omega arith) (c .larger .ensures .0),
+  c .larger .ensures .1,
 )
 
 returns-3 : tie.Need-returns-3 Inv-loop μ-loop
@@ -69,7 +73,7 @@ largest-weight-spec =
     is-finite-requires
     returns
     returns-2
-    max-requires
+    larger-requires
     add-i
     loop-less
     loop-again

@@ -4,7 +4,9 @@ use mathlib.Core.List.{[], _++_}
 use Prim.Native.Nat.{_+_, _-_, _≤_}
 use native.Mathlib.Nat.{add-zero, sub-zero}
 use native.Mathlib.Omega.{arith}
+use mathlib.Core.Bool.{false}
 use lib.ListN.{length, take, length-set}
+use lib.Ieee.{isNan}
 use Rattle.surface.specs.Surface.{heaviestAlong}
 use Rattle.surface.specs.Lent.{lent, counted}
 use Rattle.surface.specs.Net.{scaledAlong}
@@ -21,13 +23,14 @@ Inv-loop weights scale at count w net₀ from most₀ j₀ net most j =
     × (heaviestAlong s scale (counted count) at w ≡ heaviestAlong s scale (counted (count - j)) (at + j) most)
     × (length net ≡ 289)
     × (take from net₀ ++ scaledAlong weights scale count at ≡ take (from + j) net ++ scaledAlong weights scale (count - j) (at + j))
+    × (isNan most ≡ false)
 
 abbrev μ-loop : tie.MeasureT-loop
 μ-loop weights scale at count w net₀ from most₀ j₀ net most j = count - j
 
 -- src/sums.rt:37:5
 loop-holds : tie.Need-loop-holds Inv-loop μ-loop
-loop-holds c = (omega arith, simp (add-zero, sub-zero), c .before .pre .2, simp (add-zero, sub-zero))
+loop-holds c = (omega arith, simp (add-zero, sub-zero), c .before .pre .2, simp (add-zero, sub-zero), c .before .pre .3)
 
 -- src/sums.rt:38:30
 add-scaled : tie.Need-add-scaled Inv-loop μ-loop
@@ -54,8 +57,8 @@ element-write-net : tie.Need-element-write-net Inv-loop μ-loop
 element-write-net c = search needs
 
 -- src/sums.rt:40:9
-max-requires : tie.Need-max-requires Inv-loop μ-loop
-max-requires c κs = search needs
+larger-requires : tie.Need-larger-requires Inv-loop μ-loop
+larger-requires c κs = c .before .before .loop .inv .4
 
 -- src/sums.rt:37:9
 add-j : tie.Need-add-j Inv-loop μ-loop
@@ -72,9 +75,10 @@ loop-again c =
     let a = at .before .before .args in
     let l = at .loop in (
       omega arith,
-      go (heaviest-along-fold _ _ _) _ (l .j) _ _ (l .inv .1) (omega arith) _ (c .max .ensures),
+      go (heaviest-along-fold _ _ _) _ (l .j) _ _ (l .inv .1) (omega arith) _ (c .larger .ensures .0),
       simp length-set (l .inv .2),
       scaled-along-turn _ _ _ (l .net) (a .from) (a .count) (l .j) (a .at) (l .inv .3) (omega arith) (omega arith),
+      c .larger .ensures .1,
     )
 
 -- src/sums.rt:24:1
@@ -82,7 +86,7 @@ returns : tie.Need-returns Inv-loop μ-loop
 returns c =
     let l = c .before .loop in
     let a = c .before .before .before .args in
-    (stop (heaviest-along-fold _ _ _) _ (l .j) _ _ (l .inv .1) (omega arith), scaled-along-over _ _ _ (l .net) (a .from) (a .count) (l .j) (a .at) (l .inv .3) (omega arith) (omega arith), l .inv .2)
+    (stop (heaviest-along-fold _ _ _) _ (l .j) _ _ (l .inv .1) (omega arith), scaled-along-over _ _ _ (l .net) (a .from) (a .count) (l .j) (a .at) (l .inv .3) (omega arith) (omega arith), l .inv .2, l .inv .4)
 
 pub scale-along-spec : {M : Type 1} → statement M
 scale-along-spec =
@@ -97,7 +101,7 @@ scale-along-spec =
     add-net
     mul-net
     element-write-net
-    max-requires
+    larger-requires
     add-j
     loop-less
     loop-again

@@ -4,8 +4,11 @@ use mathlib.Core.List.{[], _++_}
 use Prim.Native.Nat.{_+_, _*_, _-_, _≤_}
 use native.Mathlib.Nat.{add-zero, sub-zero, zero-mul}
 use native.Mathlib.Omega.{arith}
+use mathlib.Core.Bool.{false}
 use lib.ListN.{length, take}
+use lib.Ieee.{isNan}
 use Rattle.float64.specs.Operators.{0·}
+use Rattle.float64.specs.Nonneg.{nonneg→number, zero-nonneg}
 use Rattle.surface.specs.Surface.{heaviest}
 use Rattle.surface.specs.Lent.{lent, counted}
 use Rattle.surface.specs.Net.{scaledOver}
@@ -23,13 +26,14 @@ Inv-loop weights scale stride row rows column columns net₀ most₀ i₀ net mo
     × (heaviest s scale (counted rows) (counted columns) at 0· ≡ heaviest s scale (counted (rows - i)) (counted columns) ((row + i) * stride + column) most)
     × (length net ≡ 289)
     × (scaledOver weights scale stride rows columns at ≡ take (i * columns) net ++ scaledOver weights scale stride (rows - i) columns ((row + i) * stride + column))
+    × (isNan most ≡ false)
 
 abbrev μ-loop : tie.MeasureT-loop
 μ-loop weights scale stride row rows column columns net₀ most₀ i₀ net most i = rows - i
 
 -- src/sums.rt:60:5
 loop-holds : tie.Need-loop-holds Inv-loop μ-loop
-loop-holds c = (omega arith, simp (add-zero, sub-zero), c .before .pre .3, simp (add-zero, sub-zero, zero-mul))
+loop-holds c = (omega arith, simp (add-zero, sub-zero), c .before .pre .3, simp (add-zero, sub-zero, zero-mul), nonneg→number zero-nonneg)
 
 -- src/sums.rt:61:19
 add-at : tie.Need-add-at Inv-loop μ-loop
@@ -56,7 +60,7 @@ scale-along-requires c κs =
     let turn = c .before in
     let i = turn .before .loop .i in
     let pre = turn .before .before .before .pre in
-    (row-inside i (pre .0) (turn .loop-test .taken), row-room i (turn .loop-test .taken) (pre .1) (pre .2), turn .before .loop .inv .2)
+    (row-inside i (pre .0) (turn .loop-test .taken), row-room i (turn .loop-test .taken) (pre .1) (pre .2), turn .before .loop .inv .2, turn .before .loop .inv .4)
 
 -- src/sums.rt:60:9
 add-i : tie.Need-add-i Inv-loop μ-loop
@@ -77,6 +81,7 @@ loop-again c =
       go (heaviest-fold _ _ (a .stride) (a .row) (a .columns) (a .column)) _ (l .i) _ _ (l .inv .1) (omega arith) _ (e .0),
       e .2,
       scaled-over-more _ _ (a .stride) (a .columns) _ (a .row) (a .rows) (a .column) (l .i) (l .net) (l .inv .3) (omega arith) _ (e .1),
+      e .3,
     )
 
 -- src/sums.rt:46:1
