@@ -1,23 +1,17 @@
-//! Times the port and the Rust source on the same inputs, in turns, and prints the medians and
-//! their ratio. A number of each answer is compared by bits, so that both did the same work.
+//! Times the port's kernels, which make no checks, beside the Rust source's.
 mod port;
 
+use bench::{clamped, compare, heading};
 use std::hint::black_box;
-use std::time::Instant;
 use tessstep_curves::spline::{KnotSide, KnotVector, SplineLimits};
 use tessstep_math::{ModelSpace, Point3};
 use tessstep_surfaces::NurbsSurface;
 
-/// Repeats of a case, each of which times both sides once.
-const REPEATS: usize = 41;
 /// Calls in a repeat.
 const CALLS: usize = 2000;
 
 fn main() {
-    println!(
-        "{:<28} {:>10} {:>10} {:>7}",
-        "case", "port ns", "rust ns", "ratio"
-    );
+    heading("Rust");
     roots();
     for degree in [1, 3, 5, 16] {
         bases(degree);
@@ -89,7 +83,6 @@ fn original(s: &port::Surface) -> NurbsSurface<ModelSpace> {
     NurbsSurface::new(s.degrees, knots, s.shape, &points, &s.weights, limits).unwrap()
 }
 
-/// Clamped knots over 0 to 1, evenly spaced.
 struct Axis {
     degree: usize,
     controls: usize,
@@ -98,12 +91,7 @@ struct Axis {
 
 impl Axis {
     fn new(degree: usize, controls: usize) -> Self {
-        let spans = controls - degree;
-        let inner = (1..spans).map(|i| i as f64 / spans as f64);
-        let knots = std::iter::repeat_n(0., degree + 1)
-            .chain(inner)
-            .chain(std::iter::repeat_n(1., degree + 1))
-            .collect();
+        let knots = clamped(degree, controls);
         Self {
             degree,
             controls,
@@ -127,31 +115,4 @@ impl Axis {
             .map(|i| ((i * 7919) % CALLS) as f64 / CALLS as f64)
             .collect()
     }
-}
-
-/// Both sides in turns, so that the machine's noise falls on both; the median of each.
-fn compare<T>(name: &str, inputs: &[T], port: impl Fn(&T) -> f64, rust: impl Fn(&T) -> f64) {
-    for input in inputs {
-        assert_eq!(port(input).to_bits(), rust(input).to_bits(), "{name}");
-    }
-    let mut times = [Vec::new(), Vec::new()];
-    for _ in 0..REPEATS {
-        times[0].push(timed(inputs, &port));
-        times[1].push(timed(inputs, &rust));
-    }
-    let [port, rust] = times.map(median);
-    println!("{name:<28} {port:>10.1} {rust:>10.1} {:>7.2}", port / rust);
-}
-
-fn timed<T>(inputs: &[T], call: impl Fn(&T) -> f64) -> f64 {
-    let start = Instant::now();
-    for input in inputs {
-        black_box(call(black_box(input)));
-    }
-    start.elapsed().as_nanos() as f64 / inputs.len() as f64
-}
-
-fn median(mut times: Vec<f64>) -> f64 {
-    times.sort_by(f64::total_cmp);
-    times[times.len() / 2]
 }

@@ -1,0 +1,62 @@
+//! How the time of an evaluation grows with the degree, and that of a first placing with the grid
+//! and with the controls beside it.
+use bench::cases::{along, built, bumpy, lent, on, placed, search};
+use bench::{REPEATS, median, timed};
+use oracle::calls::{Point, Surface};
+use placing::raw;
+
+fn main() {
+    println!("{:<44} {:>12}", "an evaluation, tests included", "ns");
+    for degree in [1, 2, 3, 4, 6, 8, 12, 16] {
+        evaluation(degree, degree + 1);
+    }
+    for controls in [10, 30, 100, 300] {
+        evaluation(3, controls);
+    }
+    println!();
+    println!("{:<44} {:>12}", "a first placing", "us");
+    for controls in [4, 7, 12, 26, 50, 100, 300] {
+        placing(3, controls);
+    }
+    for degree in [1, 2, 4, 8, 16] {
+        placing(degree, degree + 9);
+    }
+}
+
+fn evaluation(degree: usize, controls: usize) {
+    let surface = bumpy(degree, controls);
+    let lent = lent(&surface);
+    let pairs: Vec<[f64; 2]> = along(100).collect();
+    let call = |at: &[f64; 2]| {
+        let mut jet = [0.; 9];
+        assert_eq!(raw::evaluate(&lent, at[0], at[1], &mut jet), 0);
+        jet[0]
+    };
+    let name = format!("degree {degree}, {controls} by {controls} controls");
+    println!("{name:<44} {:>12.0}", repeated(&pairs, call));
+}
+
+fn placing(degree: usize, controls: usize) {
+    let surface = bumpy(degree, controls);
+    let shell = built(&surface);
+    let marks: Vec<Point> = along(2).map(|at| on(&shell, at)).collect();
+    let (lent, none) = (lent(&surface), search(None));
+    let call = |mark: &Point| placed(&lent, *mark, &none)[0];
+    let name = format!(
+        "degree {degree}, {controls} by {controls} controls, {0} by {0} grid",
+        values(&surface)
+    );
+    println!("{name:<44} {:>12.0}", repeated(&marks, call) / 1000.);
+}
+
+/// How many values the grid has on an axis, by document 01.
+fn values(surface: &Surface) -> usize {
+    let mut knots = surface.knots[0].clone();
+    knots.dedup();
+    let stride = knots.len().div_ceil(24).max(1);
+    8 * (knots.len() - 1).div_ceil(stride) + 1
+}
+
+fn repeated<T>(inputs: &[T], call: impl Fn(&T) -> f64) -> f64 {
+    median((0..REPEATS).map(|_| timed(inputs, &call)).collect())
+}
