@@ -20,6 +20,9 @@ use Rattle.newton.specs.declared.Verdict.{Verdict}
 use Rattle.newton.specs.declared.Verdict.the-variants.{Further, Last, Onward}
 use Rattle.newton.specs.declared.Outcome.{Outcome}
 use Rattle.newton.specs.declared.Outcome.the-variants.{Ended, Refused, Spent}
+use Rattle.newton.specs.declared.Held.{Held}
+use Rattle.newton.specs.declared.Turn.{Turn}
+use Rattle.newton.specs.declared.Turn.the-variants.{Over, Onto}
 
 -- ---- a jet against the mark
 
@@ -173,3 +176,11 @@ told (ends x y e n) = Ended x y e n
 
 unfoldable pub spend : ℕ → Run → Outcome
 spend budget r = cond (leb (count r) budget) (told r) Spent
+
+abbrev pub held : Vector3 → Bool → Float → Float → Jet → Held
+held mark b x y j = record { x = x; y = y; distance = fromMark mark j; jet = j; nudged = b }
+
+-- a round after n evaluations: one that goes on takes a unit
+unfoldable pub paid : ℕ → Vector3 → Bool → ℕ → Round → Turn
+paid budget mark b n (over r) = Over (spend budget r)
+paid budget mark b n (onto c x y j) = cond (leb (suc n) budget) (Onto (held mark (b || c) x y j)) (Over Spent)

@@ -18,7 +18,6 @@ use Rattle.newton.specs.declared.Step.{Step}
 use Rattle.newton.specs.declared.Step.the-variants.{Singular, By}
 use Rattle.newton.specs.declared.Plan.{Plan}
 use Rattle.newton.specs.declared.Plan.the-variants.{Halt, Probe}
-use Rattle.newton.specs.declared.Verdict.{Verdict}
 use Rattle.newton.specs.declared.Verdict.the-variants.{Further, Last, Onward}
 use Rattle.newton.specs.declared.Outcome.the-variants.{Spent}
 use Rattle.newton.specs.Run.{fromMark, stepOf, into, inward, still, nudged, moved, planBy, plan, judge, Run, fails, ends, count, Round, over, onto, follow, settle, weigh, pursue, round, rounds, started, run, nudgesOn, nudgesIn, nudgesFrom, nudges, told, spend}
@@ -189,19 +188,6 @@ module _ (d : Domain) (mark : Vector3) (eval : Float → Float → Evaluated) wh
       by : (r : Evaluated) → Between 1 (count (started d mark eval (into (d .u) x) (into (d .v) y) r)) 33
       by Eval.Refused = record { above = omega arith; under = omega arith }
       by (Eval.Found j) = rounds-count 32 1 false (into (d .u) x) (into (d .v) y) j
-
-  -- once a round evaluates, at least that evaluation is counted
-  module _ (k n : ℕ) (b : Bool) (x y : Float) (j : Jet) (c : Bool) (x' y' : Float) where
-    settle-count : (i : Jet) (v : Verdict) → n ≤ count (follow (rounds d mark eval k n) b (settle d mark x y j n c x' y' i v))
-    unfolding settle follow
-    settle-count i Further = omega arith
-    settle-count i Last = omega arith
-    settle-count i Onward = rounds-count k n (b || c) x' y' i .above
-
-    pub weigh-count : (e : Evaluated) → n ≤ count (follow (rounds d mark eval k n) b (weigh d mark x y j n c x' y' e))
-    unfolding weigh follow
-    weigh-count Eval.Refused = omega arith
-    weigh-count (Eval.Found i) = settle-count i (judge d x y (fromMark mark j) c x' y' (fromMark mark i))
 
   -- ---- where a run ends
 

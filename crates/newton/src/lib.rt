@@ -2,17 +2,18 @@
 mod round;
 
 use patch::Evaluated;
+use patch::Jet;
 pub use round::along_u;
 pub use round::along_v;
-use round::from_mark;
+use round::hold;
 use round::into;
-use round::judge;
-use round::plan_from;
 pub use round::point_of;
+use round::round;
 use surface::Shape;
 use surface::surface_jet;
 use vector3::Vector3;
 ghost use mathlib.Core.Path.{_≡_};
+ghost use Prim.Native.Nat.{_≤_};
 ghost use Rattle.surface.specs.Surface.{surface, refusalOfSurface, evaluateBy};
 ghost use Rattle.newton.specs.Run as Run;
 
@@ -26,6 +27,15 @@ pub struct Interval {
 pub struct Domain {
     pub u: Interval,
     pub v: Interval,
+}
+
+// The pair that a run holds, with its distance from the mark, its jet, and whether the run was nudged.
+pub struct Held {
+    pub x: f64,
+    pub y: f64,
+    pub distance: f64,
+    pub jet: Jet,
+    pub nudged: bool,
 }
 
 // The step from a pair, where the determinant is not too small.
@@ -54,7 +64,55 @@ pub enum Outcome {
     Spent,
 }
 
-// Clamps its start, evaluates there, then goes at most 32 rounds. Each evaluation takes a unit, before it is made.
+// A round by what the budget makes of it: the run is over, or goes on from the next pair.
+pub enum Turn {
+    Over(Outcome),
+    Onto(Held),
+}
+
+// At most 32, after the evaluation at the start.
+fn rounds(
+    shape: Shape,
+    ku: &[f64],
+    kv: &[f64],
+    controls: &[f64],
+    weights: &[f64],
+    scale: f64,
+    domain: Domain,
+    mark: Vector3,
+    start: Held,
+    budget: u64,
+) -> Outcome
+    requires { ⌜ (refusalOfSurface (surface shape (now ku) (now kv) (now controls) (now weights)) ≡ 0) × (start .distance ≡ Run.fromMark mark (start .jet)) × (1 ≤ budget) ⌝ }
+    ensures { λ r. ⌜ r ≡ Run.spend budget (Run.rounds domain mark (evaluateBy (surface shape (now (ku .entry)) (now (kv .entry)) (now (controls .entry)) (now (weights .entry))) scale) 32 1 (start .nudged) (start .x) (start .y) (start .jet)) ⌝ }
+{
+    let mut held = start;
+    let mut taken: u64 = 1;
+    loop {
+        if taken == 33 {
+            break Outcome::Ended(held.x, held.y, held.distance, taken);
+        }
+        match round(
+            shape,
+            ku,
+            kv,
+            controls,
+            weights,
+            scale,
+            domain,
+            mark,
+            held,
+            taken,
+            budget,
+        ) {
+            Turn::Over(outcome) => break outcome,
+            Turn::Onto(next) => held = next,
+        }
+        taken += 1;
+    }
+}
+
+// Clamps its start, evaluates there, then goes its rounds. Each evaluation takes a unit, before it is made.
 pub fn run(
     shape: Shape,
     ku: &[f64],
@@ -74,48 +132,21 @@ pub fn run(
     if budget == 0 {
         return Outcome::Spent;
     }
-    let mut x = into(domain.u, u);
-    let mut y = into(domain.v, v);
-    let Evaluated::Found(first) = surface_jet(shape, ku, kv, controls, weights, scale, x, y) else {
+    let x = into(domain.u, u);
+    let y = into(domain.v, v);
+    let Evaluated::Found(jet) = surface_jet(shape, ku, kv, controls, weights, scale, x, y) else {
         return Outcome::Refused(1);
     };
-    let mut jet = first;
-    let mut held = from_mark(mark, jet);
-    let mut nudged = false;
-    let mut taken: u64 = 1;
-    loop {
-        if taken == 33 {
-            break Outcome::Ended(x, y, held, taken);
-        }
-        let Plan::Probe(nudge, next_x, next_y) = plan_from(domain, mark, nudged, x, y, jet) else {
-            break Outcome::Ended(x, y, held, taken);
-        };
-        if taken == budget {
-            return Outcome::Spent;
-        }
-        taken += 1;
-        let Evaluated::Found(next) = surface_jet(
-            shape,
-            ku,
-            kv,
-            controls,
-            weights,
-            scale,
-            next_x,
-            next_y,
-        ) else {
-            return Outcome::Refused(taken);
-        };
-        let distance = from_mark(mark, next);
-        match judge(domain, x, y, held, nudge, next_x, next_y, distance) {
-            Verdict::Further => break Outcome::Ended(x, y, held, taken),
-            Verdict::Last => break Outcome::Ended(next_x, next_y, distance, taken),
-            Verdict::Onward => {}
-        }
-        x = next_x;
-        y = next_y;
-        jet = next;
-        held = distance;
-        nudged = nudged | nudge;
-    }
+    rounds(
+        shape,
+        ku,
+        kv,
+        controls,
+        weights,
+        scale,
+        domain,
+        mark,
+        hold(mark, false, x, y, jet),
+        budget,
+    )
 }

@@ -1,25 +1,45 @@
 // One round: where to evaluate next, and what came of it.
 use crate::Domain;
+use crate::Held;
 use crate::Interval;
+use crate::Outcome;
 use crate::Plan;
 use crate::Step;
+use crate::Turn;
 use crate::Verdict;
 use float64::abs;
 use float64::clamp;
 use float64::is_finite;
 use float64::max;
+use patch::Evaluated;
 use patch::Jet;
+use surface::Shape;
+use surface::surface_jet;
 use vector3::Vector3;
 use vector3::distance;
 use vector3::dot;
 use vector3::sub;
 ghost use mathlib.Core.Path.{_≡_};
+ghost use Prim.Native.Nat.{_≤_};
+ghost use Rattle.surface.specs.Surface.{surface, refusalOfSurface, evaluateBy};
 ghost use Rattle.newton.specs.Run as Run;
 
-pub(crate) fn from_mark(mark: Vector3, j: Jet) -> f64
+fn from_mark(mark: Vector3, j: Jet) -> f64
     ensures { λ r. ⌜ r ≡ Run.fromMark mark j ⌝ }
 {
     distance(point_of(j), mark)
+}
+
+pub(crate) fn hold(mark: Vector3, nudged: bool, x: f64, y: f64, jet: Jet) -> Held
+    ensures { λ r. ⌜ r ≡ Run.held mark nudged x y jet ⌝ }
+{
+    Held {
+        x,
+        y,
+        distance: from_mark(mark, jet),
+        jet,
+        nudged,
+    }
 }
 
 pub fn point_of(j: Jet) -> Vector3
@@ -119,36 +139,64 @@ fn moved(x: f64, y: f64, next_x: f64, next_y: f64) -> Plan
     Plan::Probe(false, next_x, next_y)
 }
 
-pub(crate) fn plan_from(d: Domain, mark: Vector3, nudged: bool, x: f64, y: f64, j: Jet) -> Plan
-    ensures { λ r. ⌜ r ≡ Run.plan d mark nudged x y j ⌝ }
+fn plan_from(d: Domain, mark: Vector3, held: Held) -> Plan
+    ensures { λ r. ⌜ r ≡ Run.plan d mark (held .nudged) (held .x) (held .y) (held .jet) ⌝ }
 {
-    let Step::By(s, t) = step_of(mark, j) else {
-        return nudge(d, nudged, x, y);
+    let x = held.x;
+    let y = held.y;
+    let Step::By(s, t) = step_of(mark, held.jet) else {
+        return nudge(d, held.nudged, x, y);
     };
     moved(x, y, into(d.u, x + s), into(d.v, y + t))
 }
 
 // A nudge is taken with no test of distance. An equal distance is no further.
-pub(crate) fn judge(
-    d: Domain,
-    x: f64,
-    y: f64,
-    held: f64,
-    nudge: bool,
-    next_x: f64,
-    next_y: f64,
-    next: f64,
-) -> Verdict
-    ensures { λ r. ⌜ r ≡ Run.judge d x y held nudge «next_x» «next_y» next ⌝ }
+fn judge(d: Domain, held: Held, nudge: bool, next: Held) -> Verdict
+    ensures { λ r. ⌜ r ≡ Run.judge d (held .x) (held .y) (held .distance) nudge (next .x) (next .y) (next .distance) ⌝ }
 {
     if nudge {
         return Verdict::Onward;
     }
-    if held < next {
+    if held.distance < next.distance {
         return Verdict::Further;
     }
-    if still(d, x, y, next_x, next_y) {
+    if still(d, held.x, held.y, next.x, next.y) {
         return Verdict::Last;
     }
     Verdict::Onward
+}
+
+// Takes a unit where it evaluates, before it does.
+pub(crate) fn round(
+    shape: Shape,
+    ku: &[f64],
+    kv: &[f64],
+    controls: &[f64],
+    weights: &[f64],
+    scale: f64,
+    domain: Domain,
+    mark: Vector3,
+    held: Held,
+    taken: u64,
+    budget: u64,
+) -> Turn
+    requires { ⌜ (refusalOfSurface (surface shape (now ku) (now kv) (now controls) (now weights)) ≡ 0) × (held .distance ≡ Run.fromMark mark (held .jet)) × (taken ≤ budget) ⌝ }
+    ensures { λ r. ⌜ r ≡ Run.paid budget mark (held .nudged) taken (Run.round domain mark (evaluateBy (surface shape (now (ku .entry)) (now (kv .entry)) (now (controls .entry)) (now (weights .entry))) scale) taken (held .nudged) (held .x) (held .y) (held .jet)) ⌝ }
+{
+    let Plan::Probe(nudge, x, y) = plan_from(domain, mark, held) else {
+        return Turn::Over(Outcome::Ended(held.x, held.y, held.distance, taken));
+    };
+    if taken == budget {
+        return Turn::Over(Outcome::Spent);
+    }
+    let units = taken + 1;
+    let Evaluated::Found(jet) = surface_jet(shape, ku, kv, controls, weights, scale, x, y) else {
+        return Turn::Over(Outcome::Refused(units));
+    };
+    let next = hold(mark, held.nudged | nudge, x, y, jet);
+    match judge(domain, held, nudge, next) {
+        Verdict::Further => Turn::Over(Outcome::Ended(held.x, held.y, held.distance, units)),
+        Verdict::Last => Turn::Over(Outcome::Ended(next.x, next.y, next.distance, units)),
+        Verdict::Onward => Turn::Onto(next),
+    }
 }
