@@ -112,22 +112,22 @@ module _ {s : Surface} {m : Float} {mark : Vector3} {k budget : ℕ} {w : Walked
   pub refused-fits : w .refusal ≡ 9 → k + w .taken ≤ budget
   refused-fits z = omega (arith, h .within, one-refused z .1)
 
-  module _ (d : Domain) (best : Best) where
-    pub explore-found : w .refusal ≡ 0 → {r : Inverted} → r ≡ spend budget (concluded (k + w .taken) k (ledBy best (runs d mark (evaluateBy s m) (held (w .starts)))))
-        → r ≡ spend budget (exploration s m d mark best k)
+  module _ (best : Best) where
+    pub explore-found : (d : Domain) → d ≡ domainOf s → w .refusal ≡ 0 → {r : Inverted} → r ≡ spend budget (concluded (k + w .taken) k (ledBy best (runs d mark (evaluateBy s m) (held (w .starts)))))
+        → r ≡ spend budget (exploration s m mark best k)
     unfolding exploration
-    explore-found z f = f ∙ ap (spend budget) (sym (explored-found d mark (evaluateBy s m) _ _ best k (all-seen z .0)))
+    explore-found d g z f = f ∙ rw g (ap (spend budget) (sym (explored-found (domainOf s) mark (evaluateBy s m) _ _ best k (all-seen z .0))))
 
-    pub explore-refused : w .refusal ≡ 9 → Refused (k + w .taken) ≡ spend budget (exploration s m d mark best k)
+    pub explore-refused : w .refusal ≡ 9 → Refused (k + w .taken) ≡ spend budget (exploration s m mark best k)
     unfolding exploration explored
     explore-refused z = refusal-told budget _ (k + w .taken) (rw (one-refused z .0)) (refused-fits z)
 
-    pub explore-spent : (w .refusal ≡ 0 → ⊥) → (w .refusal ≡ 9 → ⊥) → Spent ≡ spend budget (exploration s m d mark best k)
+    pub explore-spent : (w .refusal ≡ 0 → ⊥) → (w .refusal ≡ 9 → ⊥) → Spent ≡ spend budget (exploration s m mark best k)
     unfolding exploration outcomeOf
     explore-spent f g =
         let o : spent ≡ outcomeOf w = sym (simp (ne-eqb (w .refusal) 0 f, ne-eqb (w .refusal) 9 g)) in
         short budget _
-        (omega (arith, walk-spent _ _ (budget - k) (surveyOf s m mark) (o ∙ h .outcome), explored-price d mark (evaluateBy s m) (valuesOf (axisU s)) (valuesOf (axisV s)) best k (surveyOf s m mark)))
+        (omega (arith, walk-spent _ _ (budget - k) (surveyOf s m mark) (o ∙ h .outcome), explored-price (domainOf s) mark (evaluateBy s m) (valuesOf (axisU s)) (valuesOf (axisV s)) best k (surveyOf s m mark)))
 
 -- ---- the hint
 
@@ -159,38 +159,39 @@ pub domain-is : (s : Surface) (d : Domain) → (d .u ≡ intervalOf (s .shape .u
 unfolding domainOf
 domain-is s d p = simp (← p .0, ← p .1)
 
-module _ (s : Surface) (m : Float) (mark : Vector3) (hint : Hint) (tolerance : Float) (budget : ℕ) (d : Domain) (g : d ≡ domainOf s) where
-  pub unhinted : hint ≡ Hinted.Nothing → {r : Inverted} → r ≡ spend budget (exploration s m d mark Nothing 0) → r ≡ spend budget (inversionBy s m mark hint tolerance)
-  unfolding inversionBy plainSteps exploration
-  unhinted f e = e ∙ rw (f, ← g) (ap (spend budget) (sym (free-explored d mark (evaluateBy s m) _ _ _)))
+pub unhinted : (s : Surface) (m : Float) (mark : Vector3) (hint : Hint) (tolerance : Float) (budget : ℕ) → hint ≡ Hinted.Nothing → {r : Inverted} → r ≡ spend budget (exploration s m mark Nothing 0)
+    → r ≡ spend budget (inversionBy s m mark hint tolerance)
+unfolding inversionBy plainSteps exploration
+unhinted s m mark hint tolerance budget f e = e ∙ rw f (ap (spend budget) (sym (free-explored (domainOf s) mark (evaluateBy s m) _ _ _)))
 
-  module _ (u v : Float) (f : hint ≡ Hinted.At u v) {o : Outcome} (e : o ≡ Newton.spend budget (run d mark (evaluateBy s m) u v)) where
-    by-run : inversionBy s m mark hint tolerance ≡ hinted d mark (evaluateBy s m) (valuesOf (axisU s)) (valuesOf (axisV s)) tolerance (run d mark (evaluateBy s m) u v)
-    unfolding inversionBy plainSteps
-    by-run = rw (f, g)
+module _ (s : Surface) (m : Float) (mark : Vector3) (tolerance : Float) (budget : ℕ) (d : Domain) (g : d ≡ domainOf s)
+    (u v : Float) {o : Outcome} (e : o ≡ Newton.spend budget (run d mark (evaluateBy s m) u v)) where
+  by-run : inversionBy s m mark (Hinted.At u v) tolerance ≡ hinted d mark (evaluateBy s m) (valuesOf (axisU s)) (valuesOf (axisV s)) tolerance (run d mark (evaluateBy s m) u v)
+  unfolding inversionBy plainSteps
+  by-run = rw g
 
-    pub hint-spent : o ≡ Out.Spent → Spent ≡ spend budget (inversionBy s m mark hint tolerance)
-    hint-spent z =
-        short budget _ (rw by-run (omega (arith, run-spent budget _ e z, hinted-price d mark (evaluateBy s m) (valuesOf (axisU s)) (valuesOf (axisV s)) tolerance (run d mark (evaluateBy s m) u v))))
+  pub hint-spent : o ≡ Out.Spent → Spent ≡ spend budget (inversionBy s m mark (Hinted.At u v) tolerance)
+  hint-spent z =
+      short budget _ (rw by-run (omega (arith, run-spent budget _ e z, hinted-price d mark (evaluateBy s m) (valuesOf (axisU s)) (valuesOf (axisV s)) tolerance (run d mark (evaluateBy s m) u v))))
 
-    pub hint-refused : (k : ℕ) → o ≡ Out.Refused k → Refused k ≡ spend budget (inversionBy s m mark hint tolerance)
+  pub hint-refused : (k : ℕ) → o ≡ Out.Refused k → Refused k ≡ spend budget (inversionBy s m mark (Hinted.At u v) tolerance)
+  unfolding hinted
+  hint-refused k z =
+      let p = run-refused budget _ e k z in
+      refusal-told budget _ k (by-run ∙ rw (p .0)) (p .1)
+
+  module _ (x y z : Float) (k : ℕ) (ended : o ≡ Out.Ended x y z k) where
+    pub hint-fits : k ≤ budget
+    hint-fits = run-ended budget _ e x y z k ended .1
+
+    weighed : inversionBy s m mark (Hinted.At u v) tolerance ≡ unlessClose d mark (evaluateBy s m) (valuesOf (axisU s)) (valuesOf (axisV s)) (le z tolerance) x y z k
     unfolding hinted
-    hint-refused k z =
-        let p = run-refused budget _ e k z in
-        refusal-told budget _ k (by-run ∙ rw (p .0)) (p .1)
+    weighed = by-run ∙ rw (run-ended budget _ e x y z k ended .0)
 
-    module _ (x y z : Float) (k : ℕ) (ended : o ≡ Out.Ended x y z k) where
-      pub hint-fits : k ≤ budget
-      hint-fits = run-ended budget _ e x y z k ended .1
+    pub hint-close : le z tolerance ≡ true → Pair x y k ≡ spend budget (inversionBy s m mark (Hinted.At u v) tolerance)
+    unfolding unlessClose
+    hint-close t = pair-told budget _ x y k (weighed ∙ rw t) hint-fits
 
-      weighed : inversionBy s m mark hint tolerance ≡ unlessClose d mark (evaluateBy s m) (valuesOf (axisU s)) (valuesOf (axisV s)) (le z tolerance) x y z k
-      unfolding hinted
-      weighed = by-run ∙ rw (run-ended budget _ e x y z k ended .0)
-
-      pub hint-close : le z tolerance ≡ true → Pair x y k ≡ spend budget (inversionBy s m mark hint tolerance)
-      unfolding unlessClose
-      hint-close t = pair-told budget _ x y k (weighed ∙ rw t) hint-fits
-
-      pub hint-far : le z tolerance ≡ false → {r : Inverted} → r ≡ spend budget (exploration s m d mark (At x y z) k) → r ≡ spend budget (inversionBy s m mark hint tolerance)
-      unfolding unlessClose exploration
-      hint-far t h = h ∙ ap (spend budget) (sym (weighed ∙ rw t (end-explored d mark (evaluateBy s m) _ _ x y z k _)))
+    pub hint-far : le z tolerance ≡ false → {r : Inverted} → r ≡ spend budget (exploration s m mark (At x y z) k) → r ≡ spend budget (inversionBy s m mark (Hinted.At u v) tolerance)
+    unfolding unlessClose exploration
+    hint-far t h = h ∙ ap (spend budget) (sym (weighed ∙ rw (t, g) (end-explored (domainOf s) mark (evaluateBy s m) _ _ x y z k _)))

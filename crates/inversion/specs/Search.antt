@@ -15,7 +15,7 @@ use Rattle.seeds.specs.Axis.{valuesOf}
 use Rattle.seeds.specs.Grid.{Survey, stopped, surveyed, survey, startsOf}
 use Rattle.inversion.specs.declared.search.Best.{Best}
 use Rattle.inversion.specs.declared.search.Best.the-variants.{Nothing, At}
-use Rattle.inversion.specs.Inversion.{end, Runs, led, Answer, refusal, concluded, runs}
+use Rattle.inversion.specs.Inversion.{end, Runs, led, Answer, refusal, concluded, runs, domainOf}
 
 abbrev pub intervalOf : Counts → List Float → Interval
 intervalOf n ks =
@@ -38,8 +38,8 @@ module _ (d : Domain) (mark : Vector3) (eval : Float → Float → Evaluated) (u
   explored (stopped n) = refusal (k + n)
   explored (surveyed ps) = concluded (k + length us * length vs) k (ledBy best (runs d mark eval (startsOf ps)))
 
-unfoldable pub exploration : Surface → Float → Domain → Vector3 → Best → ℕ → Answer
-exploration s m d mark best k =
+unfoldable pub exploration : Surface → Float → Vector3 → Best → ℕ → Answer
+exploration s m mark best k =
     let us = valuesOf (axisU s) in
     let vs = valuesOf (axisV s) in
-    explored d mark (evaluateBy s m) us vs best k (survey mark (evaluateBy s m) us vs)
+    explored (domainOf s) mark (evaluateBy s m) us vs best k (survey mark (evaluateBy s m) us vs)

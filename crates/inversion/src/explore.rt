@@ -40,7 +40,10 @@ pub(crate) fn domain_of(shape: Shape, ku: &[f64], kv: &[f64]) -> Domain
     }
 }
 
-// After the units of the hint's run, which are charged again at the end.
+// What the hint's run leaves: its end, and the units that it took. Without a hint nothing, and none.
+pub struct Lead(pub Best, pub u64);
+
+// The units of the hint's run are charged again at the end.
 pub(crate) fn explore(
     shape: Shape,
     ku: &[f64],
@@ -48,15 +51,15 @@ pub(crate) fn explore(
     controls: &[f64],
     weights: &[f64],
     scale: f64,
-    domain: Domain,
     mark: Vector3,
-    best: Best,
-    taken: u64,
+    lead: Lead,
     budget: u64,
 ) -> Inverted
-    requires { ⌜ (refusalOfSurface (surface shape (now ku) (now kv) (now controls) (now weights)) ≡ 0) × Finite mark × (taken ≤ budget) ⌝ }
-    ensures { λ r. ⌜ r ≡ spend budget (exploration (surface shape (now (ku .entry)) (now (kv .entry)) (now (controls .entry)) (now (weights .entry))) scale domain mark best taken) ⌝ }
+    requires { ⌜ (refusalOfSurface (surface shape (now ku) (now kv) (now controls) (now weights)) ≡ 0) × Finite mark × (lead .1 ≤ budget) ⌝ }
+    ensures { λ r. ⌜ r ≡ spend budget (exploration (surface shape (now (ku .entry)) (now (kv .entry)) (now (controls .entry)) (now (weights .entry))) scale mark (lead .0) (lead .1)) ⌝ }
 {
+    let best = lead.0;
+    let taken = lead.1;
     let u = shape.u;
     let v = shape.v;
     let us = axis_values(ku, u.degree, u.controls);
@@ -81,7 +84,7 @@ pub(crate) fn explore(
             controls,
             weights,
             scale,
-            domain,
+            domain_of(shape, ku, kv),
             mark,
             walked.starts,
             best,

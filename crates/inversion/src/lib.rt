@@ -2,6 +2,7 @@
 mod explore;
 mod search;
 
+use explore::Lead;
 use explore::domain_of;
 use explore::explore;
 use newton::Outcome;
@@ -12,6 +13,7 @@ use vector3::Vector3;
 ghost use mathlib.Core.Path.{_≡_};
 ghost use Rattle.vector3.specs.Laws.{Finite};
 ghost use Rattle.surface.specs.Surface.{surface, refusalOfSurface};
+ghost use Rattle.inversion.specs.declared.Hint.the-variants.{At};
 ghost use Rattle.inversion.specs.Inversion.{inversionBy, spend};
 
 pub enum Hint {
@@ -26,7 +28,48 @@ pub enum Inverted {
     Spent,
 }
 
-// Runs from the hint, where there is one. Unless that run ends within the tolerance, the grid is explored.
+// Unless the run from the hint ends within the tolerance, the grid is explored.
+fn from_hint(
+    shape: Shape,
+    ku: &[f64],
+    kv: &[f64],
+    controls: &[f64],
+    weights: &[f64],
+    scale: f64,
+    mark: Vector3,
+    u: f64,
+    v: f64,
+    tolerance: f64,
+    budget: u64,
+) -> Inverted
+    requires { ⌜ (refusalOfSurface (surface shape (now ku) (now kv) (now controls) (now weights)) ≡ 0) × Finite mark ⌝ }
+    ensures { λ r. ⌜ r ≡ spend budget (inversionBy (surface shape (now (ku .entry)) (now (kv .entry)) (now (controls .entry)) (now (weights .entry))) scale mark (At u v) tolerance) ⌝ }
+{
+    match run(
+        shape,
+        ku,
+        kv,
+        controls,
+        weights,
+        scale,
+        domain_of(shape, ku, kv),
+        mark,
+        u,
+        v,
+        budget,
+    ) {
+        Outcome::Spent => Inverted::Spent,
+        Outcome::Refused(taken) => Inverted::Refused(taken),
+        Outcome::Ended(x, y, distance, taken) => {
+            if distance <= tolerance {
+                return Inverted::Pair(x, y, taken);
+            }
+            let lead = Lead(Best::At(x, y, distance), taken);
+            explore(shape, ku, kv, controls, weights, scale, mark, lead, budget)
+        }
+    }
+}
+
 pub fn invert_nurbs(
     shape: Shape,
     ku: &[f64],
@@ -42,54 +85,21 @@ pub fn invert_nurbs(
     requires { ⌜ (refusalOfSurface (surface shape (now ku) (now kv) (now controls) (now weights)) ≡ 0) × Finite mark ⌝ }
     ensures { λ r. ⌜ r ≡ spend budget (inversionBy (surface shape (now (ku .entry)) (now (kv .entry)) (now (controls .entry)) (now (weights .entry))) scale mark hint tolerance) ⌝ }
 {
-    let domain = domain_of(shape, ku, kv);
     let Hint::At(u, v) = hint else {
-        return explore(
-            shape,
-            ku,
-            kv,
-            controls,
-            weights,
-            scale,
-            domain,
-            mark,
-            Best::Nothing,
-            0,
-            budget,
-        );
+        let lead = Lead(Best::Nothing, 0);
+        return explore(shape, ku, kv, controls, weights, scale, mark, lead, budget);
     };
-    match run(
+    from_hint(
         shape,
         ku,
         kv,
         controls,
         weights,
         scale,
-        domain,
         mark,
         u,
         v,
+        tolerance,
         budget,
-    ) {
-        Outcome::Spent => Inverted::Spent,
-        Outcome::Refused(taken) => Inverted::Refused(taken),
-        Outcome::Ended(x, y, distance, taken) => {
-            if distance <= tolerance {
-                return Inverted::Pair(x, y, taken);
-            }
-            explore(
-                shape,
-                ku,
-                kv,
-                controls,
-                weights,
-                scale,
-                domain,
-                mark,
-                Best::At(x, y, distance),
-                taken,
-                budget,
-            )
-        }
-    }
+    )
 }

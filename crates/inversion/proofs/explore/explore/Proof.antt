@@ -3,7 +3,7 @@ use native.Mathlib.Omega.{arith}
 use borrow.Author.Needs.{needs}
 use Rattle.surface.specs.Surface.{Surface, surface}
 use Rattle.surface.specs.SurfaceLaws.{AcceptedSurface, accepted-surface}
-use Rattle.inversion.proofs.ExploreSteps.{Walks, walks, found-fits, refused-fits, explore-found, explore-refused, explore-spent}
+use Rattle.inversion.proofs.ExploreSteps.{domain-is, Walks, walks, found-fits, refused-fits, explore-found, explore-refused, explore-spent}
 use Rattle.inversion.proofs.explore.explore.Statement.{statement}
 use Rattle.inversion.proofs.explore.explore.Tie as tie
 
@@ -16,7 +16,7 @@ known c = accepted-surface (of c) (c .pre .0)
 abbrev start : tie.After-walk → tie.Start
 start c = c .before .before .before .before .before .before .before .before .before
 
-walked : (c : tie.After-walk) → Walks (of (start c)) (start c .args .scale) (start c .args .mark) (start c .args .taken) (start c .args .budget) (c .walk .result)
+walked : (c : tie.After-walk) → Walks (of (start c)) (start c .args .scale) (start c .args .mark) (start c .args .lead .1) (start c .args .budget) (c .walk .result)
 walked c =
     let us = c .before .before .axis-values in
     let vs = c .before .axis-values2 in
@@ -34,29 +34,40 @@ sub-walk c = search needs
 walk-requires : tie.Need-walk-requires
 walk-requires c κs = search needs
 
+domain-of-requires : tie.Need-domain-of-requires
+domain-of-requires c κs =
+    let from = known (start (c .before .before)) in
+    (from .knots-u, from .knots-v)
+
 add-search : tie.Need-add-search
 add-search c =
-    let to = c .before .before .before in
-    record { fits = omega (arith, start to .fits, found-fits (walked to) (c .before .if1 .taken)) }
+    let at = c .before .before in
+    let to = at .before .before in
+    record { fits = omega (arith, start to .fits, found-fits (walked to) (at .if1 .taken)) }
 
 search-requires : tie.Need-search-requires
 search-requires c κs =
-    let to = c .before .before .before in
-    (start to .pre .0, to .walk .ensures .1, found-fits (walked to) (c .before .if1 .taken))
+    let at = c .before .before in
+    let to = at .before .before in
+    (start to .pre .0, to .walk .ensures .1, found-fits (walked to) (at .if1 .taken))
 
 returns : tie.Need-returns
-returns c = explore-found (walked (c .before .before .before .before)) _ _ (c .before .before .if1 .taken) (c .search .ensures)
+returns c =
+    let whole = c .before .before in
+    let at = whole .before in
+    let to = at .before .before in
+    explore-found (walked to) _ _ (domain-is (of (start to)) _ (whole .domain-of .ensures)) (at .if1 .taken) (c .search .ensures)
 
-add-t20 : tie.Need-add-t20
-add-t20 c =
+add-t21 : tie.Need-add-t21
+add-t21 c =
     let to = c .before .before .before .before .before in
     record { fits = omega (arith, start to .fits, refused-fits (walked to) (c .before .if2 .taken)) }
 
 returns-2 : tie.Need-returns-2
-returns-2 c = explore-refused (walked (c .before .before .before .before .before)) _ _ (c .before .if2 .taken)
+returns-2 c = explore-refused (walked (c .before .before .before .before .before)) _ (c .before .if2 .taken)
 
 returns-3 : tie.Need-returns-3
-returns-3 c = explore-spent (walked (c .before .before .before .before)) _ _ (c .before .before .if1 .left) (c .if2 .left)
+returns-3 c = explore-spent (walked (c .before .before .before .before)) _ (c .before .before .if1 .left) (c .if2 .left)
 
 pub explore-spec : {M : Type 1} → statement M
 explore-spec =
@@ -66,9 +77,10 @@ explore-spec =
     axis-values-requires-2
     sub-walk
     walk-requires
+    domain-of-requires
     add-search
     search-requires
     returns
-    add-t20
+    add-t21
     returns-2
     returns-3)
