@@ -1,87 +1,114 @@
 // Reads a job file from standard input and writes its printout.
 use libc::EINTR;
+use libc::STDERR_FILENO;
 use libc::STDIN_FILENO;
 use libc::STDOUT_FILENO;
-ghost use Prim.Native.Nat.{_≤_};
-ghost use lib.ListN.{length};
-ghost use Rattle.place.specs.Reads.{Within};
+ghost use mathlib.Core.Path.{_≡_};
+ghost use Prim.Native.Nat.{_+_, _^_, _≤_, _<_};
+ghost use lib.ListN.{length, take};
+ghost use Rattle.job.specs.Printout.{printout};
+ghost use Rattle.place.specs.Reads.{Onward, afterRead};
 
 // One byte more than a job file may have.
 const ROOM: usize = 32_769;
 
+// What a read's answer makes of the bytes that are there.
 enum Input {
-    // So many bytes are there now: no more than before where the read was interrupted.
+    // So many are there now: as many as before where the read was interrupted.
     There(usize),
     End,
     Failed,
 }
 
 fn main() {
+    if 1 < os::arg_count() {
+        about();
+        return;
+    }
     let mut bytes = [0u8; ROOM];
-    let got = read_all(&mut bytes);
-    print(&bytes, got);
+    let got = read_rest(&mut bytes, 0);
+    print_first(&bytes, got);
 }
 
-// How many bytes came before the input's end, or until there was no more room. A read that fails leaves none: what came before it is cut off.
-fn read_all(bytes: &mut [u8]) -> usize
+// With any argument the program reads nothing and tells its version.
+fn about() {
+    io::write_all(
+        STDERR_FILENO,
+        b"place 0.2.0\nusage: place < JOB > PRINTOUT\n",
+    );
+}
+
+// How many bytes are there at the input's end, or when there is no more room; those that were there before stay. A read that fails leaves none: what came before it is cut off.
+fn read_rest(bytes: &mut [u8], from: usize) -> usize
+    requires { ⌜ from ≤ length (now bytes) ⌝ }
+    ensures { λ r. ⌜ take from (now (bytes .exit)) ≡ take from (now (bytes .entry)) ⌝ }
     ensures { λ r. ⌜ r ≤ length (now (bytes .entry)) ⌝ }
 {
-    let mut have = 0;
+    let mut have = from;
     for _ in 0..0xffff_ffff_ffff_ffffu64 {
         match read_on(bytes, have) {
             Input::There(n) => have = n,
             Input::End => return have,
-            Input::Failed => return 0,
+            Input::Failed => {
+                os::fail(b"the job could not be read");
+                return 0;
+            }
         }
     }
     0
 }
 
-// One read, past the bytes that are there.
+// One read, past the bytes that are there, which stay.
 fn read_on(bytes: &mut [u8], have: usize) -> Input
     requires { ⌜ have ≤ length (now bytes) ⌝ }
-    ensures { λ r. ⌜ Within (length (now (bytes .entry))) r ⌝ }
+    ensures { λ r. ⌜ take have (now (bytes .exit)) ≡ take have (now (bytes .entry)) ⌝ }
+    ensures { λ r. ⌜ Onward have (length (now (bytes .entry))) r ⌝ }
 {
     if have == bytes.len() {
         return Input::End;
     }
     let got = libc::read(STDIN_FILENO, &mut bytes[have..]);
-    if got == 0 {
-        return Input::End;
-    }
-    if got < 0 {
-        if os::errno() == EINTR {
+    let interrupted = os::errno() == EINTR;
+    after(have, io::count(got, &bytes[have..]), got < 0, interrupted)
+}
+
+fn after(have: usize, more: usize, failed: bool, interrupted: bool) -> Input
+    requires { ⌜ have + more < 2 ^ 64 ⌝ }
+    ensures { λ r. ⌜ r ≡ afterRead have more failed interrupted ⌝ }
+{
+    if failed {
+        if interrupted {
             return Input::There(have);
         }
         return Input::Failed;
     }
-    Input::There(have + io::count(got, &bytes[have..]))
+    if more == 0 {
+        return Input::End;
+    }
+    Input::There(have + more)
 }
 
-fn print(bytes: &[u8; ROOM], got: usize)
-    requires { ⌜ got ≤ 32769 ⌝ }
-{
-    let mut out = [0u8; job::MOST_PRINTED];
-    let n = print_file(bytes, got, &mut out);
-    show(&out, n);
-}
-
-fn print_file(bytes: &[u8], got: usize, out: &mut [u8; job::MOST_PRINTED]) -> usize
+fn print_first(bytes: &[u8], got: usize)
     requires { ⌜ got ≤ length (now bytes) ⌝ }
-    ensures { λ r. ⌜ r ≤ 69632 ⌝ }
 {
-    job::job(&bytes[..got], out)
+    print(&bytes[..got]);
 }
 
-fn show(out: &[u8; job::MOST_PRINTED], n: usize)
-    requires { ⌜ n ≤ 69632 ⌝ }
+fn print(file: &[u8]) {
+    let mut out = [0u8; job::MOST_PRINTED];
+    let n = job::job(file, &mut out);
+    show(file, &out, n);
+}
+
+fn show(file: &[u8], out: &[u8; job::MOST_PRINTED], n: usize)
+    requires { ⌜ (take n (now out) ≡ printout (now file)) × (n ≤ 69632) ⌝ }
 {
-    write(out, n);
+    write(file, out, n);
 }
 
 // A program has no exit status of its own to give: that a printout is not whole is told on standard error.
-fn write(out: &[u8], n: usize)
-    requires { ⌜ n ≤ length (now out) ⌝ }
+fn write(file: &[u8], out: &[u8], n: usize)
+    requires { ⌜ (take n (now out) ≡ printout (now file)) × (n ≤ length (now out)) ⌝ }
 {
     if !io::write_all(STDOUT_FILENO, &out[..n]) {
         os::fail(b"the printout is not whole");

@@ -1,0 +1,107 @@
+-- `place::read_rest` meets its contract. The invariant: what is there has room, and what was there at first stays. Assumes nothing.
+use mathlib.Core.Path.{_≡_, refl, sym, ap, _∙_}
+use mathlib.Core.List.{List}
+use Prim.Native.Nat.{ℕ, _-_, _≤_}
+use native.Mathlib.Omega.{arith}
+use lib.ListN.{length, take}
+use lib.Seq.{take-take}
+use Rattle.place.specs.declared.Input.{Input}
+use Rattle.place.specs.declared.Input.the-variants.{There}
+use Rattle.place.specs.Reads.{Onward}
+use borrow.Author.Needs.{needs}
+use Rattle.place.proofs.read_rest.Statement.{statement}
+use Rattle.place.proofs.read_rest.Tie as tie
+
+bounds : (have size : ℕ) (r : Input) (n : ℕ) → Onward have size r → r ≡ There n → (have ≤ n) × (n ≤ size)
+bounds have size r n w e = rw e at w
+
+stays : (from have : ℕ) (xs ys zs : List ℕ) → from ≤ have → take have xs ≡ take have ys → take from ys ≡ take from zs → take from xs ≡ take from zs
+stays from have xs ys zs h p q = sym (take-take from have xs h) ∙ ap (take from) p ∙ take-take from have ys h ∙ q
+
+abbrev Inv-loop : tie.InvT-loop
+Inv-loop bytes₀ from have₀ t5 counter₀ bytes have counter =
+    (from ≤ have) × (have ≤ length bytes) × (length bytes ≡ length bytes₀) × (take from bytes ≡ take from bytes₀)
+
+abbrev μ-loop : tie.MeasureT-loop
+μ-loop bytes₀ from have₀ t5 counter₀ bytes have counter = 0xffff_ffff_ffff_ffff - counter
+
+loop-holds : tie.Need-loop-holds Inv-loop μ-loop
+loop-holds c = (omega arith, search needs, refl, refl)
+
+read-on-requires : tie.Need-read-on-requires Inv-loop μ-loop
+read-on-requires c κs = search needs
+
+enum-known-n : tie.Need-enum-known-n Inv-loop μ-loop
+enum-known-n c = search needs
+
+enum-told : tie.Need-enum-told Inv-loop μ-loop
+enum-told c = search needs
+
+same-length : tie.Need-same-length Inv-loop μ-loop
+same-length c = search needs
+
+returns : tie.Need-returns Inv-loop μ-loop
+returns c =
+    let r = c .before .before .before .before in
+    let l = r .before .before .before .loop in
+    (stays _ _ _ _ _ (l .inv .0) (r .read-on .ensures .0) (l .inv .3), omega (arith, l .inv))
+
+enum-told-2 : tie.Need-enum-told-2 Inv-loop μ-loop
+enum-told-2 c = search needs
+
+slice-aggregate-fail : tie.Need-slice-aggregate-fail Inv-loop μ-loop
+slice-aggregate-fail c = search needs
+
+fail-requires : tie.Need-fail-requires Inv-loop μ-loop
+fail-requires c κs = search needs
+
+same-length-2 : tie.Need-same-length-2 Inv-loop μ-loop
+same-length-2 c = search needs
+
+returns-2 : tie.Need-returns-2 Inv-loop μ-loop
+returns-2 c =
+    let r = c .before .before .before .before .before .before in
+    let l = r .before .before .before .loop in
+    (stays _ _ _ _ _ (l .inv .0) (r .read-on .ensures .0) (l .inv .3), omega arith)
+
+add-counter : tie.Need-add-counter Inv-loop μ-loop
+add-counter c = search needs
+
+loop-less : tie.Need-loop-less Inv-loop μ-loop
+loop-less c = search needs
+
+loop-again : tie.Need-loop-again Inv-loop μ-loop
+loop-again c =
+    let r = c .before .before .before .before .before in
+    let l = r .before .before .before .loop in
+    let b = bounds _ _ _ _ (r .read-on .ensures .1) (c .before .n .given .1) in
+    (omega (arith, b, l .inv), omega (arith, b), search needs, stays _ _ _ _ _ (l .inv .0) (r .read-on .ensures .0) (l .inv .3))
+
+same-length-3 : tie.Need-same-length-3 Inv-loop μ-loop
+same-length-3 c = search needs
+
+returns-3 : tie.Need-returns-3 Inv-loop μ-loop
+returns-3 c = (c .before .loop .inv .3, omega arith)
+
+pub read-rest-spec : {M : Type 1} → statement M
+read-rest-spec =
+    tie.close
+    (tie.spec
+    Inv-loop
+    μ-loop
+    loop-holds
+    read-on-requires
+    enum-known-n
+    enum-told
+    same-length
+    returns
+    enum-told-2
+    slice-aggregate-fail
+    fail-requires
+    same-length-2
+    returns-2
+    add-counter
+    loop-less
+    loop-again
+    same-length-3
+    returns-3)
