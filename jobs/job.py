@@ -1,9 +1,17 @@
 #!/usr/bin/env python3
-"""Job files by hand.
+"""Job files by hand, and what became of them.
 
     job.py pack   < TEXT     > JOB      a job in words, as the file that the placing program reads
     job.py unpack < JOB      > TEXT     and back
-    job.py read   < PRINTOUT            a printout with its numbers in decimal
+    job.py read   < PRINTOUT            a whole printout, with its numbers in decimal
+    job.py check  JOB PRINTOUT          how far each pair's surface point lies from its mark
+
+Status 0: all is well. 1: the input is not what it should be; a printout is whole where it has
+as many pairs as its first line says, or a refusal after fewer, and ends in a newline. 2: not
+called as above. 3: the job was refused. 4: a pair lies further from its mark than the tolerance.
+
+`check` evaluates by the library itself, libplacing.so: the one that PLACING_LIBRARY names,
+else the one beside this file, else the repository's own, which is built where need be.
 
 The words of a job, in this order; a line that begins with # is left out:
 
@@ -22,15 +30,52 @@ A number is written as Python writes it (0.5, 1e-6, inf) or, to the bit, as 0x a
 NaN in decimal, a count of knots or controls that is not the one its line stands for.
 """
 
+import ctypes
 import math
+import os
+import re
 import struct
+import subprocess
 import sys
+from pathlib import Path
+from typing import NamedTuple
 
+MOST_BYTES = 32768
 PERIODIC = {"no": 0, "yes": 1}
+REFUSED, FURTHER = 3, 4
 
 
 class Malformed(Exception):
-    """The input is not a job, or not a printout."""
+    """The input is not a job, or not a whole printout, or the two don't go together."""
+
+
+class Job(NamedTuple):
+    """A job file. A float is its eight bytes."""
+
+    degrees: tuple
+    counts: tuple
+    flags: int
+    knots: tuple
+    coordinates: list
+    weights: list
+    tolerance: bytes
+    budget: int
+    marks: list
+
+
+class Printout(NamedTuple):
+    """A whole printout: how many marks its first line tells, which a malformed file's has not;
+    its pairs; and a refusal's number and index, or nothing."""
+
+    marks: int | None
+    pairs: list
+    refusal: tuple | None
+
+
+class Pair(NamedTuple):
+    u: float
+    v: float
+    left: int
 
 
 def number(word):
@@ -46,10 +91,13 @@ def number(word):
     return struct.pack("<d", value)
 
 
+def value(eight):
+    return struct.unpack("<d", eight)[0]
+
+
 def word(eight):
     """Eight bytes as the text that gives them back."""
-    (value,) = struct.unpack("<d", eight)
-    return f"0x{struct.unpack('<Q', eight)[0]:016x}" if math.isnan(value) else repr(value)
+    return f"0x{struct.unpack('<Q', eight)[0]:016x}" if math.isnan(value(eight)) else repr(value(eight))
 
 
 # ---- from words to a file
@@ -75,10 +123,10 @@ class Lines:
 
 
 def whole(text, size):
-    value = int(text)
-    if not 0 <= value < 256**size:
-        raise Malformed(f"{value} does not fit in {size} bytes")
-    return value.to_bytes(size, "little")
+    number = int(text)
+    if not 0 <= number < 256**size:
+        raise Malformed(f"{number} does not fit in {size} bytes")
+    return number.to_bytes(size, "little")
 
 
 def pack(text):
@@ -103,7 +151,10 @@ def pack(text):
         out += [b"MK", *map(number, lines.take("mark", 3))]
     if lines.rest:
         raise Malformed(f"`{' '.join(lines.rest[0])}` is left over")
-    return b"".join(out)
+    file = b"".join(out)
+    if len(file) > MOST_BYTES:
+        raise Malformed(f"the file would have {len(file):,} bytes, and no more than {MOST_BYTES:,} are read")
+    return file
 
 
 # ---- from a file to words
@@ -127,64 +178,171 @@ class Bytes:
             raise Malformed(f"{expected.decode()} was due at byte {self.at - 2}")
 
     def numbers(self, count):
-        if count * 8 > len(self.data) - self.at:
-            raise Malformed(f"the file is cut off at byte {len(self.data)}")
-        return [word(self.take(8)) for _ in range(count)]
+        taken = self.take(8 * count)
+        return [taken[i : i + 8] for i in range(0, 8 * count, 8)]
 
 
-def unpack(data):
-    if len(data) > 32768:
-        raise Malformed("the file has more than 32,768 bytes")
+def parse(data):
+    if len(data) > MOST_BYTES:
+        raise Malformed(f"the file has more than {MOST_BYTES:,} bytes")
     rest = Bytes(data)
     rest.mark(b"SF")
     du, dv, nu, nv, flags = struct.unpack("<BBHHB", rest.take(7))
     if flags > 3:
         raise Malformed(f"the flags are {flags}")
-    yes = ["no", "yes"]
-    out = [f"degrees {du} {dv}", f"controls {nu} {nv}", f"periodic {yes[flags & 1]} {yes[flags >> 1]}"]
-    out.append(" ".join(["knots_u", *rest.numbers(nu + du + 1)]))
-    out.append(" ".join(["knots_v", *rest.numbers(nv + dv + 1)]))
+    knots = rest.numbers(nu + du + 1), rest.numbers(nv + dv + 1)
     coordinates, weights = rest.numbers(3 * nu * nv), rest.numbers(nu * nv)
-    for i, weight in enumerate(weights):
-        out.append(" ".join(["control", *coordinates[3 * i : 3 * i + 3], "weight", weight]))
     rest.mark(b"TL")
-    out.append(f"tolerance {rest.numbers(1)[0]}")
-    out.append(f"budget {int.from_bytes(rest.take(8), 'little')}")
+    (tolerance,), budget = rest.numbers(1), int.from_bytes(rest.take(8), "little")
+    marks = []
     while rest.at < len(data):
         rest.mark(b"MK")
-        out.append(" ".join(["mark", *rest.numbers(3)]))
-    return "\n".join(out) + "\n"
+        marks.append(rest.numbers(3))
+    return Job((du, dv), (nu, nv), flags, knots, coordinates, weights, tolerance, budget, marks)
+
+
+def unpack(data):
+    job = parse(data)
+    yes = ["no", "yes"]
+    out = [
+        ["degrees", *map(str, job.degrees)],
+        ["controls", *map(str, job.counts)],
+        ["periodic", yes[job.flags & 1], yes[job.flags >> 1]],
+        ["knots_u", *map(word, job.knots[0])],
+        ["knots_v", *map(word, job.knots[1])],
+    ]
+    for i, weight in enumerate(job.weights):
+        out.append(["control", *map(word, job.coordinates[3 * i : 3 * i + 3]), "weight", word(weight)])
+    out += [["tolerance", word(job.tolerance)], ["budget", str(job.budget)]]
+    out += [["mark", *map(word, mark)] for mark in job.marks]
+    return "".join(" ".join(words) + "\n" for words in out)
 
 
 # ---- a printout
 
+DECIMAL = "(0|[1-9][0-9]*)"
+MARKS = re.compile(f"marks {DECIMAL}")
+PAIR = re.compile(f"([0-9a-f]{{16}}) ([0-9a-f]{{16}}) {DECIMAL}")
+REFUSAL = re.compile(f"refused {DECIMAL} at {DECIMAL}")
 
-def read(printout):
-    out = []
-    for line in printout.splitlines():
-        words = line.split(" ")
-        if words[0] not in ("marks", "refused"):
-            if len(words) != 3 or len(words[0]) != 16 or len(words[1]) != 16:
-                raise Malformed(f"`{line}` is no line of a printout")
-            u, v = (struct.unpack(">d", bytes.fromhex(bits))[0] for bits in words[:2])
-            line = f"u {u!r} v {v!r} left {words[2]}"
-        out.append(line + "\n")
-    return "".join(out)
+
+def whole_printout(text):
+    """A printout. No part of one passes for it, but `marks 0` for that with its refusal after it."""
+    if not text.endswith("\n"):
+        raise Malformed("the printout is not whole: it does not end in a newline")
+    lines = text[:-1].split("\n")
+    if lines == ["refused 12 at 0"]:
+        return Printout(None, [], (12, 0))
+    first = MARKS.fullmatch(lines[0])
+    if not first:
+        raise Malformed(f"`{lines[0]}` is no first line of a printout")
+    marks, refused = int(first[1]), REFUSAL.fullmatch(lines[-1])
+    pairs = [pair(line) for line in (lines[1:-1] if refused else lines[1:])]
+    refusal = (int(refused[1]), int(refused[2])) if refused else None
+    if refusal and not refusal[1] == len(pairs) <= max(marks - 1, 0):
+        raise Malformed(f"the printout is not whole: {len(pairs)} pairs of {marks}, and mark {refusal[1]} refused")
+    if not refusal and len(pairs) != marks:
+        raise Malformed(f"the printout is not whole: {len(pairs)} pairs of {marks}")
+    return Printout(marks, pairs, refusal)
+
+
+def pair(line):
+    found = PAIR.fullmatch(line)
+    if not found:
+        raise Malformed(f"`{line}` is no line of a printout")
+    u, v = (value(bytes.fromhex(bits)[::-1]) for bits in found.groups()[:2])
+    return Pair(u, v, int(found[3]))
+
+
+def refusal_line(printout):
+    return ["refused {} at {}".format(*printout.refusal)] if printout.refusal else []
+
+
+def read(text):
+    """The printout in decimal, and the status."""
+    printout = whole_printout(text)
+    lines = [] if printout.marks is None else [f"marks {printout.marks}"]
+    lines += [f"u {p.u!r} v {p.v!r} left {p.left}" for p in printout.pairs] + refusal_line(printout)
+    return "".join(line + "\n" for line in lines), REFUSED if printout.refusal else 0
+
+
+# ---- how far the pairs are from their marks
+
+
+def library():
+    """The proved library, as a shared object."""
+    here = Path(__file__).resolve().parent
+    named, beside = os.environ.get("PLACING_LIBRARY"), here / "libplacing.so"
+    if named or beside.exists():
+        return ctypes.CDLL(named or str(beside))
+    if subprocess.run(["make", "-s", "-C", here.parent / "bindings" / "c", "shared"], stdout=sys.stderr).returncode:
+        raise Malformed("libplacing.so is not built: PLACING_LIBRARY may name one")
+    return ctypes.CDLL(str(here.parent / "target" / "shared" / "libplacing.so"))
+
+
+def evaluator(job):
+    """From a pair to its surface point, by the library."""
+    call = library().placing_evaluate
+    call.restype = ctypes.c_uint64
+
+    def lent(numbers):
+        array = (ctypes.c_double * len(numbers)).from_buffer_copy(b"".join(numbers))
+        return array, ctypes.c_size_t(len(numbers))
+
+    surface = [ctypes.c_size_t(n) for n in job.degrees + job.counts] + [ctypes.c_uint64(job.flags)]
+    for numbers in (*job.knots, job.coordinates, job.weights):
+        surface += lent(numbers)
+
+    def at(u, v):
+        jet = (ctypes.c_double * 9)()
+        refused = call(*surface, ctypes.c_double(u), ctypes.c_double(v), jet, ctypes.c_size_t(9))
+        if refused:
+            raise Malformed(f"no surface point at u {u!r} v {v!r}: refused {refused}. Is it this job's printout?")
+        return jet[:3]
+
+    return at
+
+
+def distance(a, b):
+    """As the library works it out."""
+    x, y, z = (p - q for p, q in zip(a, b))
+    return math.sqrt(x * x + y * y + z * z)
+
+
+def check(data, text):
+    """A line a pair with its distance, and the status."""
+    job, printout = parse(data), whole_printout(text)
+    if printout.marks not in (None, len(job.marks)):
+        raise Malformed(f"the job has {len(job.marks)} marks and the printout {printout.marks}")
+    at, tolerance = evaluator(job), value(job.tolerance)
+    lines, further = [], 0
+    for i, (p, mark) in enumerate(zip(printout.pairs, job.marks)):
+        far = distance(at(p.u, p.v), map(value, mark))
+        above = not far <= tolerance
+        further += above
+        lines.append(f"mark {i} distance {far!r}" + (f" ABOVE the tolerance {tolerance!r}" if above else ""))
+    status = REFUSED if printout.refusal else FURTHER if further else 0
+    return "".join(line + "\n" for line in lines + refusal_line(printout)), status
 
 
 def main(arguments):
-    source, sink = sys.stdin.buffer, sys.stdout.buffer
+    source = sys.stdin.buffer
     turns = {
-        "pack": lambda: pack(source.read().decode()),
-        "unpack": lambda: unpack(source.read()).encode(),
-        "read": lambda: read(source.read().decode()).encode(),
+        ("pack", 1): lambda: (pack(source.read().decode()), 0),
+        ("unpack", 1): lambda: (unpack(source.read()), 0),
+        ("read", 1): lambda: read(source.read().decode()),
+        ("check", 3): lambda: check(Path(arguments[1]).read_bytes(), Path(arguments[2]).read_bytes().decode()),
     }
-    if len(arguments) != 1 or arguments[0] not in turns:
-        sys.exit(__doc__)
+    turn = turns.get((arguments[0] if arguments else "", len(arguments)))
+    if not turn:
+        print(__doc__, file=sys.stderr)
+        sys.exit(2)
     try:
-        sink.write(turns[arguments[0]]())
-    except (Malformed, ValueError) as why:
+        out, status = turn()
+    except (Malformed, ValueError, OSError) as why:
         sys.exit(f"job.py: {why}")
+    sys.stdout.buffer.write(out if isinstance(out, bytes) else out.encode())
+    sys.exit(status)
 
 
 if __name__ == "__main__":

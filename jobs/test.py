@@ -1,0 +1,256 @@
+#!/usr/bin/env python3
+"""Tests of the placing program as an operator runs it, and of job.py: jobs/test.py PROGRAM"""
+
+import errno
+import fcntl
+import os
+import shutil
+import socket
+import struct
+import subprocess
+import sys
+import tempfile
+import unittest
+from concurrent.futures import ThreadPoolExecutor
+from pathlib import Path
+
+import job
+
+HERE = Path(__file__).resolve().parent
+SQUARE = (HERE / "square.job").read_bytes()
+TEXT = (HERE / "square.txt").read_text()
+PRINTED = b"marks 2\n3fd0000000000000 3fe0000000000000 908\n3fd0000000000000 3fe0000000000000 814\n"
+MALFORMED = b"refused 12 at 0\n"
+program = ""
+
+
+def stored():
+    """The job files of crates/job_vectors with the printouts that the Rust gives: a kind, a count
+    of words, then each text as its count of bytes and these, eight to a word."""
+    stream = (HERE.parent / "crates" / "job_vectors" / "stdin").read_bytes()
+    at = 0
+
+    def text():
+        nonlocal at
+        (count,) = struct.unpack_from("<Q", stream, at)
+        found = stream[at + 8 : at + 8 + count]
+        at += 8 + (count + 7) // 8 * 8
+        return found
+
+    while at < len(stream):
+        at += 16
+        yield text(), text()
+
+
+STORED = list(stored())
+
+
+def place(source, arguments=(), sink=subprocess.PIPE, command=(), **settings):
+    """What the program writes to standard output and says on standard error."""
+    ran = subprocess.run([*command, program, *arguments], stdin=source, stdout=sink, stderr=subprocess.PIPE, timeout=60, **settings)
+    return ran.stdout, ran.stderr.decode()
+
+
+def place_bytes(file, **settings):
+    with tempfile.TemporaryFile() as source:
+        source.write(file)
+        source.seek(0)
+        return place(source, **settings)
+
+
+def place_pieces(pieces):
+    """Each piece is the answer of one read: a packet is read whole, and never with the next."""
+    here, there = socket.socketpair(socket.AF_UNIX, socket.SOCK_SEQPACKET)
+    with here, subprocess.Popen([program], stdin=there, stdout=subprocess.PIPE, stderr=subprocess.PIPE) as run:
+        there.close()
+        for piece in pieces:
+            here.send(piece)
+        here.close()
+        wrote, said = run.communicate(timeout=60)
+        return wrote, said.decode()
+
+
+def at_records(file):
+    """Cut before each record's mark, as far as the file has marks at these places."""
+    try:
+        found = job.parse(file)
+    except job.Malformed:
+        return [file]
+    cuts = [0, len(file) - 26 * len(found.marks) - 18]
+    cuts += range(len(file) - 26 * len(found.marks), len(file), 26)
+    return [file[a:b] for a, b in zip(cuts, [*cuts[1:], len(file)])]
+
+
+def run_job(*arguments, text=b"", **settings):
+    command = [sys.executable, HERE / "job.py", *arguments]
+    return subprocess.run(command, input=text, stdout=subprocess.PIPE, stderr=subprocess.PIPE, timeout=600, **settings)
+
+
+class Program(unittest.TestCase):
+    def test_stored_files_print_what_the_source_gives(self):
+        for file, printout in STORED:
+            self.assertEqual(place_bytes(file), (printout, ""))
+
+    def test_pieces_make_the_whole(self):
+        for file, printout in STORED:
+            self.assertEqual(place_pieces(at_records(file)), (printout, ""))
+            self.assertEqual(place_pieces(struct.pack("B", byte) for byte in file), (printout, ""))
+
+    def test_records_are_cut_where_they_begin(self):
+        self.assertEqual([piece[:2] for piece in at_records(SQUARE)], [b"SF", b"TL", b"MK", b"MK"])
+
+    def test_no_more_than_the_room_is_read(self):
+        for size in (32768, 32769, 32770, 200000):
+            self.assertEqual(place_bytes(b"SF" + bytes(size - 2)), (MALFORMED, ""))
+
+    def test_many_at_once(self):
+        with ThreadPoolExecutor(16) as pool:
+            for found in pool.map(place_bytes, [SQUARE] * 200):
+                self.assertEqual(found, (PRINTED, ""))
+
+    def test_anywhere_and_through_a_link(self):
+        with tempfile.TemporaryDirectory() as folder:
+            link = os.path.join(folder, "link")
+            os.symlink(os.path.relpath(program, folder), link)
+            with open(HERE / "square.job", "rb") as source:
+                ran = subprocess.run([link], stdin=source, capture_output=True, cwd=folder, env={}, timeout=60)
+            self.assertEqual((ran.stdout, ran.stderr), (PRINTED, b""))
+
+    def test_alone_in_an_empty_root(self):
+        command = ["chroot"] if os.geteuid() == 0 else ["unshare", "--map-root-user", "chroot"]
+        with tempfile.TemporaryDirectory() as root:
+            shutil.copy(program, root)
+            with open(HERE / "square.job", "rb") as source:
+                ran = subprocess.run([*command, root, "/place"], stdin=source, capture_output=True, timeout=60)
+            self.assertEqual((ran.stdout, ran.stderr), (PRINTED, b""))
+            self.assertEqual(os.listdir(root), ["place"])
+
+    def test_failed_reads_are_told(self):
+        reader, writer = os.pipe()
+        os.set_blocking(reader, False)
+        folder = os.open("/", os.O_RDONLY)
+        for source, cause in ((reader, errno.EAGAIN), (folder, errno.EISDIR), (writer, errno.EBADF)):
+            self.assertEqual(place(source), (MALFORMED, f"the job could not be read: {os.strerror(cause)}\n"))
+            os.close(source)
+        closed = place(None, command=["sh", "-c", 'exec "$0" <&-'])
+        self.assertEqual(closed, (MALFORMED, f"the job could not be read: {os.strerror(errno.EBADF)}\n"))
+
+    def test_an_empty_input_is_malformed_and_no_failure(self):
+        self.assertEqual(place(subprocess.DEVNULL), (MALFORMED, ""))
+
+    def test_a_printout_that_is_not_whole_is_told(self):
+        with open("/dev/full", "wb") as full:
+            said = place_bytes(SQUARE, sink=full)[1]
+            self.assertEqual(said, f"the printout is not whole: {os.strerror(errno.ENOSPC)}\n")
+        said = place_bytes(SQUARE, sink=None, command=["sh", "-c", 'exec "$0" >&-'])[1]
+        self.assertEqual(said, f"the printout is not whole: {os.strerror(errno.EBADF)}\n")
+
+    def test_a_printout_in_pieces(self):
+        """A pipe of one page, read late, takes a long printout a part at a time."""
+        file = job.pack(TEXT.replace("budget 1000", "budget 4000000000") + "mark 0.25 0.5 0.75\n" * 1200)
+        with tempfile.TemporaryFile() as source:
+            source.write(file)
+            source.seek(0)
+            with subprocess.Popen([program], stdin=source, stdout=subprocess.PIPE, stderr=subprocess.PIPE) as run:
+                fcntl.fcntl(run.stdout, fcntl.F_SETPIPE_SZ, 4096)
+                wrote, said = run.communicate(timeout=60)
+        self.assertEqual(said, b"")
+        self.assertEqual(len(job.whole_printout(wrote.decode()).pairs), 1202)
+
+    def test_an_argument_asks_for_the_version(self):
+        wrote, said = place(subprocess.DEVNULL, ["--version"])
+        cargo = (HERE.parent / "bindings" / "rust" / "Cargo.toml").read_text()
+        (version,) = (line.split('"')[1] for line in cargo.splitlines() if line.startswith("version ="))
+        self.assertEqual((wrote, said), (b"", f"place {version}\nusage: place < JOB > PRINTOUT\n"))
+
+
+class Words(unittest.TestCase):
+    def test_there_and_back(self):
+        self.assertEqual(job.pack(TEXT), SQUARE)
+        for file, printout in STORED:
+            if printout == MALFORMED:
+                self.assertRaises(job.Malformed, job.unpack, file)
+            else:
+                self.assertEqual(job.pack(job.unpack(file)), file)
+
+    def test_damaged_texts(self):
+        lines = TEXT.splitlines(keepends=True)
+        needed = [i for i, line in enumerate(lines) if not line.startswith(("#", "mark"))]
+        for i in needed:
+            for damaged in ("", lines[i].rstrip() + " 1\n", "knots_w 0\n", lines[i] * 2):
+                self.assertRaises(job.Malformed, job.pack, "".join(lines[:i] + [damaged] + lines[i + 1 :]))
+        for old, new in (("knots_u 0 0", "knots_u 0 nan"), ("knots_u 0", "knots_u 0x00"), ("degrees 1", "degrees 256"),
+                         ("no no", "no maybe"), ("budget 1000", "budget -1"), ("weight 1", "wait 1")):
+            self.assertIn(old, TEXT)
+            self.assertRaises(job.Malformed, job.pack, TEXT.replace(old, new, 1))
+        self.assertRaises(ValueError, job.pack, TEXT.replace("tolerance 0.5", "tolerance half"))
+
+    def test_texts_over_long(self):
+        room = (32768 - len(SQUARE)) // 26
+        self.assertEqual(len(job.pack(TEXT + "mark 0 0 0\n" * room)), len(SQUARE) + 26 * room)
+        self.assertRaises(job.Malformed, job.pack, TEXT + "mark 0 0 0\n" * (room + 1))
+
+    def test_status(self):
+        self.assertEqual(run_job("pack", text=TEXT.encode()).stdout, SQUARE)
+        for arguments, text, status in ((["unpack"], SQUARE, 0), (["unpack"], SQUARE[:-1], 1), (["pack"], b"degrees", 1),
+                                        (["pack"], b"\xff", 1), ([], b"", 2), (["pick"], b"", 2), (["check", "one"], b"", 2),
+                                        (["check", "no such job", "nor printout"], b"", 1)):
+            ran = run_job(*arguments, text=text)
+            self.assertEqual((ran.returncode, bool(ran.stdout), bool(ran.stderr)), (status, status == 0, status != 0))
+
+
+class Printouts(unittest.TestCase):
+    def test_whole_and_no_part_of_it(self):
+        for _, printout in STORED:
+            text = printout.decode()
+            self.assertEqual(job.read(text)[1], job.REFUSED if "refused" in text else 0)
+            for part in (text[:cut] for cut in range(len(text))):
+                if part != "marks 0\n":
+                    self.assertRaises(job.Malformed, job.whole_printout, part)
+
+    def test_not_whole(self):
+        pair = "3fd0000000000000 3fe0000000000000 908\n"
+        for text in (pair, "marks 1\n" + pair * 2, "marks 2\n" + pair + "refused 9 at 0\n", "marks 1\n" + pair + "refused 9 at 1\n",
+                     "marks 1\nrefused 9 at 0\n" + pair, "marks 01\n" + pair, "marks 1\n" + pair.upper(), "marks 1\n\n" + pair,
+                     "refused 4 at 0\n", "marks 0\n" + pair, "marks 1\r\n" + pair):
+            self.assertRaises(job.Malformed, job.whole_printout, text)
+
+    def test_status(self):
+        for text, status in ((PRINTED, 0), (MALFORMED, 3), (b"marks 1\nrefused 8 at 0\n", 3), (PRINTED[:-2], 1), (b"", 1)):
+            ran = run_job("read", text=text)
+            self.assertEqual((ran.returncode, bool(ran.stdout), bool(ran.stderr)), (status, status != 1, status == 1))
+        self.assertIn(b"u 0.25 v 0.5 left 814\n", run_job("read", text=PRINTED).stdout)
+
+
+class Distances(unittest.TestCase):
+    def check(self, text, printout=None):
+        """A job in words, with its own printout or another."""
+        with tempfile.TemporaryDirectory() as folder:
+            file, printed = Path(folder, "job"), Path(folder, "printout")
+            file.write_bytes(job.pack(text))
+            printed.write_bytes(place_bytes(file.read_bytes())[0] if printout is None else printout)
+            return run_job("check", file, printed)
+
+    def test_marks_beyond_the_tolerance(self):
+        near = self.check(TEXT.replace("tolerance 0.5", "tolerance 0.75"))
+        self.assertEqual((near.returncode, near.stdout), (0, b"mark 0 distance 0.75\nmark 1 distance 0.75\n"))
+        far = self.check(TEXT + "mark 0.25 0.5 1e9\nmark 0.5 0.5 0.5\n")
+        self.assertEqual(far.returncode, 4)
+        self.assertEqual([b"ABOVE" in line for line in far.stdout.splitlines()], [True, True, True, False])
+        self.assertIn(b"mark 2 distance 1000000000.0 ABOVE the tolerance 0.5\n", far.stdout)
+
+    def test_a_refused_job(self):
+        short = self.check(TEXT.replace("budget 1000", "budget 100"))
+        self.assertEqual((short.returncode, short.stdout.splitlines()[1:]), (3, [b"refused 8 at 1"]))
+
+    def test_another_jobs_printout(self):
+        for other in (b"marks 0\n", PRINTED[:-1], PRINTED.replace(b"3fd", b"43d")):
+            ran = self.check(TEXT, other)
+            self.assertEqual((ran.returncode, ran.stdout), (1, b""))
+
+
+if __name__ == "__main__":
+    if len(sys.argv) != 2:
+        sys.exit(__doc__)
+    program = os.path.abspath(sys.argv.pop())
+    unittest.main()
