@@ -5,3 +5,4 @@ pub mod Digits
 pub mod Normal
 pub mod RootOfBits
 pub mod Guess
+pub mod RemainderOfBits

@@ -15,7 +15,7 @@ use Rattle.float64.specs.Functions.{halfSize, radicand}
 use Rattle.float64.specs.Patterns.{unitsOfBits, Normalized}
 use Rattle.float64.proofs.Patterns.{Written, pow-lt-back}
 
--- ---- the leading zeros of a number below 2 ^ 52, of 64 places
+-- ---- the leading zeros of a number below 2 ^ 53, of 64 places
 
 pub record Missing (a z : ℕ) : Type 0 where
   pub enough : 11 ≤ z
@@ -24,13 +24,13 @@ pub record Missing (a z : ℕ) : Type 0 where
   pub full : 2 ^ 52 ≤ a * 2 ^ (z - 11)
   pub short : a * 2 ^ (z - 11) < 2 ^ 53
 
-pub leading : (a : ℕ) → 0 < a → a < 2 ^ 52 → Missing a (leadingZeros 64 a)
+pub leading : (a : ℕ) → 0 < a → a < 2 ^ 53 → Missing a (leadingZeros 64 a)
 leading a h l =
     let t = leading-top 64 a h (omega arith) in
     let j = t .0 in
     let z = leadingZeros 64 a in
     let s : z + suc j ≡ 64 = t .1 in
-    let small : j < 52 = lt-of-not-le (λ (g : 52 ≤ j). lt-irrefl a (lt-of-lt-of-le l (native.Mathlib.Nat.le-trans (pow-mono g) (t .2)))) in
+    let small : j < 53 = lt-of-not-le (λ (g : 53 ≤ j). lt-irrefl a (lt-of-lt-of-le l (native.Mathlib.Nat.le-trans (pow-mono g) (t .2)))) in
     let e : j + (z - 11) ≡ 52 = omega arith in
     let f : suc j + (z - 11) ≡ 53 = omega arith in
     record {

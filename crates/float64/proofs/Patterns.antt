@@ -2,16 +2,16 @@
 use mathlib.Core.Path.{_≡_, refl, sym, ap, _∙_, subst}
 use mathlib.Core.Logic.{_⊎_, inl, inr}
 use mathlib.Core.Bool.{Bool, true, false, not, cond}
-use Prim.Native.Nat.{ℕ, suc, _+_, _-_, _*_, _/_, _%_, _^_, _≤_, _<_}
-use native.Mathlib.Nat.{lt-of-not-le, lt-irrefl, lt-of-lt-of-le, lt-of-le-of-lt, eq-zero-or-pos, eq-or-lt-of-le, pow-suc, add-assoc, mul-assoc, zero-add, mul-div-cancel, mul-le-mul-right, le-of-mul-le-mul-right}
+use Prim.Native.Nat.{ℕ, zero, suc, _+_, _-_, _*_, _/_, _%_, _^_, _≤_, _<_}
+use native.Mathlib.Nat.{lt-of-not-le, lt-irrefl, lt-of-lt-of-le, lt-of-le-of-lt, eq-zero-or-pos, eq-or-lt-of-le, pow-suc, add-assoc, mul-assoc, zero-add, zero-mul, mul-div-cancel, mul-le-mul-right, le-of-mul-le-mul-right}
 use native.Mathlib.Omega.{arith}
 use lib.IntN.{ℤ}
 use lib.Dec.{T, lit<, lit≤}
 use lib.Pow.{pow-add, pow-pos, pow-mono, shl-lt}
-use lib.Ieee.{Float, nan, inf, fin, binary64, up, down, size, fits, nanBits, toBits, ofBits}
+use lib.Ieee.{Float, nan, inf, fin, binary64, up, down, size, fits, isNan, nanBits, toBits, ofBits}
 use lib.Ieee.Digits.{size-lt, size-le, size-reaches, back}
 use lib.Ieee.Fits.{kept-lt, down-pos}
-use lib.Ieee.Bits.{ofBits-toBits, toBits-ofBits, ofBits-fits, nanBits-is, nanBits-above}
+use lib.Ieee.Bits.{ofBits-toBits, toBits-ofBits, toBits-lt, ofBits-fits, nanBits-is, nanBits-above}
 use borrow.Author.Tests.{le-ltb}
 use lib.Ieee.Exact.{HasValue}
 use Rattle.float64.specs.Functions.{unitsOf}
@@ -33,6 +33,13 @@ normal {n} {b} w h = go (w .leading)
     go : (2 ^ 52 ≤ w .c) ⊎ (w .k ≡ 0) → (2 ^ 52 ≤ w .c) × (suc (w .k) ≡ b / 2 ^ 52)
     go (inl l) = (l, omega (arith, w .pattern, w .small))
     go (inr z) = (omega (arith, w .pattern), omega (arith, w .pattern, w .small))
+
+pub above-nothing : {n b : ℕ} → 0 < n → Written n b → 0 < b
+above-nothing {n} {b} h w = go (w .c) refl
+  where
+    go : (c : ℕ) → w .c ≡ c → 0 < b
+    go zero e = absurd (omega (arith, w .number ∙ ap (λ (x : ℕ). x * 2 ^ w .k) e ∙ zero-mul (2 ^ w .k)))
+    go (suc c) e = omega (arith, w .pattern)
 
 -- digits that a carry made 2 ^ 53 are 2 ^ 52 with one more zero
 pub carried : (c k : ℕ) → c ≤ 2 ^ 53 → (2 ^ 52 ≤ c) ⊎ (k ≡ 0) → Written (c * 2 ^ k) (k * 2 ^ 52 + c)
@@ -135,6 +142,10 @@ toBits-plain m e = toBits-is false m e ∙ zero-add (patternOf (unitsOf m e))
 pub toBits-sign : (s : Bool) (m : ℕ) (e : ℤ) → toBits binary64 (fin s m e) ≡ cond s (2 ^ 63) 0 + toBits binary64 (fin false m e)
 toBits-sign s m e = toBits-is s m e ∙ ap (λ (x : ℕ). cond s (2 ^ 63) 0 + x) (sym (toBits-plain m e))
 
+pub sign-off : (s : Bool) (p : ℕ) → p ≤ 2047 * 2 ^ 52 → (cond s (2 ^ 63) 0 + p) % 2 ^ 63 ≡ p
+sign-off true p h = omega arith
+sign-off false p h = omega arith
+
 -- a finite double's pattern tells how many of the smallest doubles it is
 pub toBits-written : (s : Bool) (m : ℕ) (e : ℤ) → T (fits binary64 (fin s m e)) → Written (unitsOf m e) (toBits binary64 (fin false m e))
 toBits-written s m e f = subst (λ (b : ℕ). Written (unitsOf m e) b) (sym (toBits-plain m e)) (units-written (double s m e f))
@@ -191,3 +202,14 @@ written-toBits {n} {b} w y s v = value-toBits y s n v ∙ ap (λ (x : ℕ). cond
 
 pub written-ofBits : {n b : ℕ} → Written n b → (y : Float) (s : Bool) → T (fits binary64 y) → HasValue y s n (2 ^ 1074) → ofBits binary64 (cond s (2 ^ 63) 0 + b) ≡ y
 written-ofBits w y s f v = ap (ofBits binary64) (sym (written-toBits w y s v)) ∙ ofBits-toBits binary64 y f
+
+-- b is the pattern of a double
+module _ (y : Float) (f : T (fits binary64 y)) (b : ℕ) (is : b ≡ toBits binary64 y) where
+  pub in-width : b < 2 ^ 64
+  in-width = subst (λ (n : ℕ). n < 2 ^ 64) (sym is) (toBits-lt binary64 y f)
+
+  pub read-back : ofBits binary64 b ≡ y
+  read-back = ap (ofBits binary64) is ∙ ofBits-toBits binary64 y f
+
+  pub no-nan : T (not (isNan y)) → T (not (nanBits binary64 b))
+  no-nan h = subst (λ (t : Bool). T (not t)) (sym (nanBits-is binary64 b ∙ ap isNan read-back)) h

@@ -5,26 +5,23 @@ use mathlib.Core.Bool.{true, false, not, true≢false, false≢true}
 use Prim.Native.Nat.{ℕ, zero, suc, _+_, _*_, _/_, _%_, _^_, _≤_, _<_}
 use native.Mathlib.Nat.{lt-of-le-of-lt, mul-le-mul-left, zero-add, zero-mul, suc-mul, zero-lt-suc}
 use native.Mathlib.Omega.{arith}
-use lib.IntN.{pos}
 use lib.Dec.{T, lt→ltb}
 use lib.Ieee.{Float, nan, inf, fin, binary64, up, down, lt, eq, isNan, fits, toBits, ofBits}
 use lib.Ieee.Exact.{HasValue}
 use lib.Ieee.Fits.{up-pos}
 use lib.Ieee.Positive.{positive}
-use borrow.Author.Tests.{ltb-true, ltb-false, ne-eqb}
+use borrow.Author.Tests.{ltb-true, ltb-false}
 use Rattle.float64.specs.WholeRoot.{nearestRoot}
 use Rattle.float64.specs.Functions.{halfSize, radicand, rootOfUnits, root}
 use Rattle.float64.specs.Patterns.{Normalized}
 use Rattle.float64.specs.RootLaws.{PositiveUnits, positive-units, root-value, root-fits, least-digits, most-digits}
-use Rattle.float64.proofs.Patterns.{Written, carried, toBits-written, toBits-finite, written-ofBits}
+use Rattle.float64.proofs.Small.{+0, is-zero, not-zero}
+use Rattle.float64.proofs.Patterns.{Written, above-nothing, carried, toBits-written, toBits-finite, written-ofBits}
 use Rattle.float64.proofs.Normal.{half-is, radicand-is}
 
 -- ---- the tests
 
-abbrev zero64 : Float
-zero64 = fin false 0 (pos 0)
-
-pub below-zero : (x : Float) → lt x zero64 ≡ true → nan ≡ root x
+pub below-zero : (x : Float) → lt x +0 ≡ true → nan ≡ root x
 unfolding lt root
 below-zero nan h = absurd (false≢true h)
 below-zero (inf true) h = refl
@@ -33,24 +30,23 @@ below-zero (fin true zero e) h = absurd (omega (arith, ltb-true 0 (zero * up e *
 below-zero (fin true (suc m) e) h = refl
 below-zero (fin false m e) h = absurd (omega (arith, ltb-true (m * up e * 1) (0 * 1 * down e) h))
 
-pub at-zero : (x : Float) → eq x zero64 ≡ true → x ≡ root x
+pub at-zero : (x : Float) → eq x +0 ≡ true → x ≡ root x
 unfolding eq root
 at-zero nan h = absurd (false≢true h)
 at-zero (inf s) h = absurd (false≢true h)
 at-zero (fin s zero e) h = refl
-at-zero (fin s (suc m) e) h = absurd (true≢false (sym h ∙ simp (ne-eqb (suc m * up e * 1) (0 * 1 * down e) (λ z. omega (arith, z, suc-mul m (up e), up-pos e)))))
+at-zero (fin s (suc m) e) h = absurd (true≢false (sym h ∙ not-zero s m e))
 
-pub above-zero : (x : Float) → lt x zero64 ≡ false → eq x zero64 ≡ false → lt x (inf false) ≡ true → T (positive x)
+pub above-zero : (x : Float) → lt x +0 ≡ false → eq x +0 ≡ false → lt x (inf false) ≡ true → T (positive x)
 unfolding lt eq
 above-zero nan h g k = absurd (false≢true k)
 above-zero (inf true) h g k = absurd (true≢false h)
 above-zero (inf false) h g k = absurd (false≢true k)
-above-zero (fin true zero e) h g k = absurd (true≢false (simp zero-mul at g))
-above-zero (fin false zero e) h g k = absurd (true≢false (simp zero-mul at g))
+above-zero (fin s zero e) h g k = absurd (true≢false (sym (is-zero s e) ∙ g))
 above-zero (fin true (suc m) e) h g k = absurd (omega (arith, ltb-false 0 (suc m * up e * 1 + 0 * 1 * down e) h, suc-mul m (up e), up-pos e))
 above-zero (fin false (suc m) e) h g k = lt→ltb 0 (suc m) (zero-lt-suc m)
 
-pub other : (x : Float) → lt x zero64 ≡ false → lt x (inf false) ≡ false → x ≡ root x
+pub other : (x : Float) → lt x +0 ≡ false → lt x (inf false) ≡ false → x ≡ root x
 unfolding lt root
 other nan h k = refl
 other (inf true) h k = absurd (true≢false h)
@@ -68,13 +64,6 @@ not-nan (fin s m e) p = tt
 -- a digit lent to the significand
 pub lent : (m e : ℕ) → m < 2 ^ 53 → m * (1 + e % 2) < 2 ^ 54
 lent m e h = let l : 1 + e % 2 ≤ 2 = omega arith in lt-of-le-of-lt (mul-le-mul-left m l) (omega arith)
-
-above-nothing : {n b : ℕ} → 0 < n → Written n b → 0 < b
-above-nothing {n} {b} h w = go (w .c) refl
-  where
-    go : (c : ℕ) → w .c ≡ c → 0 < b
-    go zero e = absurd (omega (arith, w .number ∙ ap (λ (x : ℕ). x * 2 ^ w .k) e ∙ zero-mul (2 ^ w .k)))
-    go (suc c) e = omega (arith, w .pattern)
 
 pub pattern-bounds : (x : Float) → T (fits binary64 x) → T (positive x) → (0 < toBits binary64 x) × (toBits binary64 x < 2047 * 2 ^ 52)
 pattern-bounds nan f p = absurd p

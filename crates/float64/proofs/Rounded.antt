@@ -1,7 +1,7 @@
 -- The pattern of a rounded double: by the exponent's field of a pattern without its sign, and then with the sign. Assumes nothing.
 use mathlib.Core.Path.{_≡_, refl, sym, ap, _∙_, subst}
 use mathlib.Core.Logic.{_⊎_, inl, inr}
-use mathlib.Core.Bool.{Bool, true, false, not, cond}
+use mathlib.Core.Bool.{Bool, false, not, cond}
 use Prim.Native.Nat.{ℕ, zero, suc, _+_, _-_, _*_, _/_, _%_, _^_, _≤_, _<_}
 use native.Mathlib.Nat.{lt-of-lt-of-le, le-of-lt, eq-or-lt-of-le, le-of-suc-le-suc, zero-add, mul-one, mul-assoc, mul-right-comm, mul-le-mul-right, mul-lt-mul-of-pos-right, div-eq-of-lt, div-eq-of-lt-le, le-div-iff-mul-le, div-lt-iff-lt-mul, mul-add-div-right, pow-succ'}
 use native.Mathlib.Omega.{arith}
@@ -17,7 +17,10 @@ use lib.Ieee.Bits.{ofBits-toBits}
 use Rattle.float64.specs.Units.{double, units-exact}
 use Rattle.float64.specs.Functions.{roundAway, unitsOf}
 use Rattle.float64.specs.RoundLaws.{nearestWhole, whole-itself, round-away-value, round-away-inf}
-use Rattle.float64.proofs.Patterns.{Written, normal, carried, patternOf, toBits-inf, toBits-sign, toBits-finite, ofBits-read, value-toBits, written-toBits}
+use Rattle.float64.specs.Order.{finite→number}
+use Rattle.float64.specs.RemainderLaws.{finite-of-value}
+use Rattle.float64.proofs.Small.{number}
+use Rattle.float64.proofs.Patterns.{Written, normal, carried, patternOf, toBits-inf, toBits-sign, sign-off, toBits-finite, ofBits-read, value-toBits, written-toBits}
 
 -- ---- a fraction to the nearest whole number
 
@@ -189,10 +192,6 @@ signed (fin s m e) f h =
       rounds = pattern s f ∙ ap (λ (r : ℕ). cond s (2 ^ 63) 0 + r) (sym same);
     }
 
-sign-off : (s : Bool) (p : ℕ) → p ≤ 2047 * 2 ^ 52 → (cond s (2 ^ 63) 0 + p) % 2 ^ 63 ≡ p
-sign-off true p h = omega arith
-sign-off false p h = omega arith
-
 -- the sign's bit is taken off, and put back to the rounded pattern
 module _ (x : Float) (f : T (fits binary64 x)) (h : T (not (isNan x))) where
   magnitude : toBits binary64 x % 2 ^ 63 ≡ signed x f h .p
@@ -206,14 +205,8 @@ module _ (x : Float) (f : T (fits binary64 x)) (h : T (not (isNan x))) where
       let g = signed x f h in
       omega (arith, g .bits, magnitude, g .rounds, e ∙ ap (λ (p : ℕ). toBits binary64 (roundAway (ofBits binary64 p))) magnitude)
 
-finite-value : (y : Float) (s : Bool) (a c : ℕ) → HasValue y s a c → T (not (isNan y))
-unfolding isNan
-finite-value nan s a c v = absurd v
-finite-value (inf t) s a c v = absurd v
-finite-value (fin t m e) s a c v = tt
-
 pub round-no-nan : (x : Float) → T (fits binary64 x) → T (not (isNan x)) → T (not (isNan (roundAway x)))
 unfolding isNan
 round-no-nan nan f h = absurd h
 round-no-nan (inf s) f h = subst (λ (y : Float). T (not (isNan y))) (sym (round-away-inf s)) tt
-round-no-nan (fin s m e) f h = finite-value (roundAway (fin s m e)) s (nearestWhole (m * up e) (down e)) 1 (round-away-value s m e f)
+round-no-nan (fin s m e) f h = number (roundAway (fin s m e)) (finite→number (roundAway (fin s m e)) (finite-of-value (roundAway (fin s m e)) s (nearestWhole (m * up e) (down e)) 1 (round-away-value s m e f)))

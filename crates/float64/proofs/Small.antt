@@ -1,10 +1,10 @@
--- What the tests of `is_finite`, `abs` and `max` say of their argument. Assumes nothing.
-use mathlib.Core.Path.{_≡_, refl, sym, _∙_}
-use mathlib.Core.Bool.{Bool, true, false, _&&_, true≢false, false≢true}
-use Prim.Native.Nat.{zero, suc, _+_, _*_, _^_}
+-- What the tests against a NaN, an infinity and a zero say of their argument. Assumes nothing.
+use mathlib.Core.Path.{_≡_, refl, sym, subst, _∙_}
+use mathlib.Core.Bool.{Bool, true, false, not, _&&_, true≢false, false≢true}
+use Prim.Native.Nat.{ℕ, zero, suc, _+_, _*_, _^_}
 use native.Mathlib.Nat.{suc-mul, zero-mul, pow-suc}
 use native.Mathlib.Omega.{arith}
-use lib.IntN.{pos, negsuc}
+use lib.IntN.{ℤ, pos, negsuc}
 use lib.Dec.{T, eqb→eq}
 use lib.Pow.{pow-pos}
 use lib.Ieee.{Float, nan, inf, fin, lt, eq, ne, neg, isNan, fits, binary64, up, down}
@@ -21,6 +21,12 @@ ne-isNan (inf false) = refl
 ne-isNan (fin true m e) = simp (eq-eqb (m * up e * down e) (m * up e * down e) refl)
 ne-isNan (fin false m e) = simp (eq-eqb (m * up e * down e) (m * up e * down e) refl)
 
+pub number : (x : Float) → isNan x ≡ false → T (not (isNan x))
+number x h = subst (λ (b : Bool). T (not b)) (sym h) tt
+
+pub not-nan : (x : Float) → ne x x ≡ false → T (not (isNan x))
+not-nan x h = number x (sym (ne-isNan x) ∙ h)
+
 pub finite-if-below : (x : Float) → lt x (inf false) ≡ true → lt (inf true) x ≡ isFinite x
 unfolding lt isFinite
 finite-if-below nan h = refl
@@ -34,7 +40,7 @@ not-finite-if-not nan h = refl
 not-finite-if-not (inf s) h = h
 not-finite-if-not (fin s m e) h = refl
 
-abbrev +0 : Float
+abbrev pub +0 : Float
 +0 = fin false 0 (pos 0)
 
 pub abs-below : (x : Float) → lt x +0 ≡ true → neg x ≡ abs x
@@ -48,6 +54,15 @@ abs-below (fin false m e) h = absurd (omega (arith, ltb-true (m * up e * 1) (0 *
 and-false : (a b : Bool) → a ≡ false → (a && b) ≡ false
 and-false a b h = simp h
 
+pub is-zero : (s : Bool) (e : ℤ) → eq (fin s zero e) +0 ≡ true
+unfolding eq
+is-zero true e = simp zero-mul
+is-zero false e = simp zero-mul
+
+pub not-zero : (s : Bool) (m : ℕ) (e : ℤ) → eq (fin s (suc m) e) +0 ≡ false
+unfolding eq
+not-zero s m e = and-false _ _ (ne-eqb (suc m * up e * 1) (0 * 1 * down e) (λ z. omega (arith, z, suc-mul m (up e), up-pos e)))
+
 -- of the zeros `fits` leaves only the one with the exponent 0
 pub abs-zero : (x : Float) → T (fits binary64 x) → eq x +0 ≡ true → +0 ≡ abs x
 unfolding eq abs fits
@@ -56,9 +71,7 @@ abs-zero (inf s) f h = absurd (false≢true h)
 abs-zero (fin s zero (pos zero)) f h = refl
 abs-zero (fin s zero (pos (suc k))) f h = absurd (omega (arith, eqb→eq (2 ^ suc k * 1) 1 f, pow-suc 2 k, pow-pos k))
 abs-zero (fin s zero (negsuc k)) f h = absurd (omega (arith, eqb→eq (1 * 2 ^ suc k) 1 f, pow-suc 2 k, pow-pos k))
-abs-zero (fin s (suc m) e) f h =
-    let n = suc m * up e * 1 in
-    absurd (true≢false (sym h ∙ and-false _ _ (ne-eqb n (0 * 1 * down e) (λ z. omega (arith, z, suc-mul m (up e), up-pos e)))))
+abs-zero (fin s (suc m) e) f h = absurd (true≢false (sym h ∙ not-zero s m e))
 
 pub abs-other : (x : Float) → lt x +0 ≡ false → eq x +0 ≡ false → x ≡ abs x
 unfolding lt eq abs

@@ -20,16 +20,16 @@ use borrow.Author.Tests.{lt-ltb, le-ltb, ne-eqb}
 use Rattle.float64.specs.Operators.{_⊕_, 0·}
 use Rattle.float64.specs.Functions.{isFinite, abs, remEuclid}
 use Rattle.float64.specs.Nonneg.{nonneg-not-below, round-nonneg}
-use Rattle.float64.specs.Units.{double, units-counted}
+use Rattle.float64.specs.Units.{Double, double, units-counted}
 
 -- ---- remainders of multiples
 
-mod-scale : (x y c : ℕ) → 0 < y → 0 < c → x * c % (y * c) ≡ x % y * c
+pub mod-scale : (x y c : ℕ) → 0 < y → 0 < c → x * c % (y * c) ≡ x % y * c
 mod-scale x y c Y C =
     ap (λ (z : ℕ). z % (y * c)) (ap (λ (z : ℕ). z * c) (sym (div-add-mod' x y)) ∙ add-mul (x / y * y) (x % y) c ∙ ap (λ (z : ℕ). z + x % y * c) (mul-assoc (x / y) y c))
     ∙ digits-mod (x / y) (mul-lt-mul-of-pos-right (mod-lt x Y) C)
 
-raise : (n i j : ℕ) → j ≤ i → n * 2 ^ i ≡ n * 2 ^ (i - j) * 2 ^ j
+pub raise : (n i j : ℕ) → j ≤ i → n * 2 ^ i ≡ n * 2 ^ (i - j) * 2 ^ j
 raise n i j h = ap (λ (z : ℕ). n * z) (ap (λ (z : ℕ). 2 ^ z) (sym (sub-add-cancel h)) ∙ pow-add 2 (i - j) j) ∙ sym (mul-assoc n (2 ^ (i - j)) (2 ^ j))
 
 -- with the lower of the two exponents taken out, the remainder is no longer than the significand that has it
@@ -56,27 +56,34 @@ short p m j n i M N P = go (leb j i) (leb→le j i) (nleb→lt j i)
 counted : (m u v w l z : ℕ) → u * l ≡ z * w → m * u * v * l ≡ m * z * (w * v)
 counted m u v w l z h = mul-right-comm (m * u) v l ∙ ap (λ (p : ℕ). p * v) (mul-assoc m u l ∙ ap (λ (p : ℕ). m * p) h ∙ sym (mul-assoc m z w)) ∙ mul-assoc (m * z) w v
 
+-- over one denominator, and in units of the smallest double
+module _ {m : ℕ} {e : ℤ} {n : ℕ} {d : ℤ} (X : Double m e) (Y : Double n d) (N : 0 < n) where
+  pub rem-units : m * up e * down d % (n * up d * down e) * 2 ^ 1074 ≡ m * 2 ^ X .shift % (n * 2 ^ Y .shift) * (down e * down d)
+  rem-units =
+      let l = 2 ^ 1074 in
+      let a = m * up e * down d in
+      let b = n * up d * down e in
+      let c = down e * down d in
+      let x = m * 2 ^ X .shift in
+      let y = n * 2 ^ Y .shift in
+      let A : a * l ≡ x * c = counted m (up e) (down d) (down e) l (2 ^ X .shift) (X .scaled) in
+      let B : b * l ≡ y * c = counted n (up d) (down e) (down d) l (2 ^ Y .shift) (Y .scaled) ∙ ap (λ (z : ℕ). y * z) (mul-comm (down d) (down e)) in
+      sym (mod-scale a b l (mul-pos (mul-pos N (up-pos d)) (down-pos e)) (pow-pos 1074))
+      ∙ ap₂ (λ (z w : ℕ). z % w) A B
+      ∙ mod-scale x y c (mul-pos N (pow-pos (Y .shift))) (mul-pos (down-pos e) (down-pos d))
+
 -- what `rem` rounds is a value of the format already
 round-rem : (s : Bool) (m : ℕ) (e : ℤ) (t : Bool) (n : ℕ) (d : ℤ) → T (fits binary64 (fin s m e)) → T (fits binary64 (fin t n d)) → 0 < n
     → HasValue (round binary64 s (m * up e * down d % (n * up d * down e)) (down e * down d)) s (m * up e * down d % (n * up d * down e)) (down e * down d)
 round-rem s m e t n d F G N =
-    let l = 2 ^ 1074 in
+    let X = double s m e F in
+    let Y = double t n d G in
     let a = m * up e * down d in
     let b = n * up d * down e in
     let c = down e * down d in
-    let C : 0 < c = mul-pos (down-pos e) (down-pos d) in
-    let X = double s m e F in
-    let Y = double t n d G in
-    let j = X .shift in
-    let i = Y .shift in
-    let (q, k, Q, r) = short 53 m j n i (X .short) (Y .short) N in
-    let A : a * l ≡ m * 2 ^ j * c = counted m (up e) (down d) (down e) l (2 ^ j) (X .scaled) in
-    let B : b * l ≡ n * 2 ^ i * c = counted n (up d) (down e) (down d) l (2 ^ i) (Y .scaled) ∙ ap (λ (z : ℕ). n * 2 ^ i * z) (mul-comm (down d) (down e)) in
-    round-exact binary64 s (a % b) c q k C Q (subst (λ (z : ℕ). z < 2 ^ 2098) r (lt-of-le-of-lt (mod-le (m * 2 ^ j) (n * 2 ^ i)) (X .under)))
-    (sym (mod-scale a b l (mul-pos (mul-pos N (up-pos d)) (down-pos e)) (pow-pos 1074))
-    ∙ ap₂ (λ (z w : ℕ). z % w) A B
-    ∙ mod-scale (m * 2 ^ j) (n * 2 ^ i) c (mul-pos N (pow-pos i)) C
-    ∙ ap (λ (z : ℕ). z * c) r)
+    let (q, k, Q, r) = short 53 m (X .shift) n (Y .shift) (X .short) (Y .short) N in
+    round-exact binary64 s (a % b) c q k (mul-pos (down-pos e) (down-pos d)) Q (subst (λ (z : ℕ). z < 2 ^ 2098) r (lt-of-le-of-lt (mod-le (m * 2 ^ X .shift) (n * 2 ^ Y .shift)) (X .under)))
+    (rem-units X Y N ∙ ap (λ (z : ℕ). z * c) r)
 
 pub rem-exact : (s : Bool) (m : ℕ) (e : ℤ) (t : Bool) (n : ℕ) (d : ℤ) → T (fits binary64 (fin s m e)) → T (fits binary64 (fin t n d)) → 0 < n
     → HasValue (rem binary64 (fin s m e) (fin t n d)) s (m * up e * down d % (n * up d * down e)) (down e * down d)
@@ -126,7 +133,7 @@ finite-of-le (inf true) y a c n h l = absurd (true≢false n)
 finite-of-le (inf false) (fin s m e) a c n h l = absurd l
 finite-of-le (fin s m e) y a c n h l = refl
 
-finite-of-value : (x : Float) (s : Bool) (a c : ℕ) → HasValue x s a c → isFinite x ≡ true
+pub finite-of-value : (x : Float) (s : Bool) (a c : ℕ) → HasValue x s a c → isFinite x ≡ true
 unfolding isFinite
 finite-of-value (fin t m e) s a c h = refl
 

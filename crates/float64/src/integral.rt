@@ -1,13 +1,10 @@
 // Rounding to a whole number, from the bits.
+use crate::bits::FIELD;
+use crate::bits::SIGN;
 ghost use mathlib.Core.Path.{_≡_};
 ghost use Prim.Native.Nat.{_*_, _^_, _≤_};
 ghost use lib.Ieee.{binary64, toBits, ofBits};
 ghost use Rattle.float64.specs.Functions.{roundAway};
-
-// The weights of the exponent's field and of the sign.
-const FIELD: u64 = 0x0010_0000_0000_0000;
-
-const SIGN: u64 = 0x8000_0000_0000_0000;
 
 // The nearest whole number, a half away from zero. The sign stays, that of a zero too.
 pub fn round(x: f64) -> f64

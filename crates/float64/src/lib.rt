@@ -1,8 +1,11 @@
 // The methods of Rust's f64 that the port uses. Each answers for every f64, NaN and infinities included.
+mod bits;
 mod integral;
+mod remainder;
 mod square_root;
 
 pub use integral::round;
+use remainder::remainder;
 pub use square_root::root;
 ghost use mathlib.Core.Path.{_≡_};
 ghost use mathlib.Core.Bool.{false};
@@ -68,7 +71,7 @@ pub fn clamp(x: f64, lo: f64, hi: f64) -> f64
 pub fn rem_euclid(x: f64, y: f64) -> f64
     ensures { λ r. ⌜ r ≡ Functions.remEuclid x y ⌝ }
 {
-    let r = x % y;
+    let r = remainder(x, y);
     if r < 0.0 {
         return r + abs(y);
     }

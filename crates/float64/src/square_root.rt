@@ -1,4 +1,6 @@
 // The square root, from the bits, in whole numbers.
+use crate::bits::FIELD;
+use crate::bits::missing;
 ghost use mathlib.Core.Path.{_≡_};
 ghost use mathlib.Core.Bool.{true};
 ghost use Prim.Native.Nat.{_+_, _*_, _/_, _%_, _^_, _≤_, _<_};
@@ -7,9 +9,6 @@ ghost use lib.Ieee.Positive.{positive};
 ghost use Rattle.float64.specs.WholeRoot.{nearestRoot};
 ghost use Rattle.float64.specs.Patterns.{Normalized};
 ghost use Rattle.float64.specs.Functions as Functions;
-
-// The weight of the exponent's field.
-const FIELD: u64 = 0x0010_0000_0000_0000;
 
 // The weight of the upper half of 53 binary digits.
 const HALF: u64 = 0x0800_0000;
@@ -72,14 +71,6 @@ fn normalized(bits: u64) -> Scaled
         significand: digits << shift,
         exponent: 54 - shift,
     }
-}
-
-// How many binary digits are missing to 53.
-fn missing(digits: u64) -> u64
-    requires { ⌜ (0 < digits) × (digits < 2 ^ 52) ⌝ }
-    ensures { λ r. ⌜ (r ≤ 52) × (2 ^ 52 ≤ digits * 2 ^ r) × (digits * 2 ^ r < 2 ^ 53) ⌝ }
-{
-    u64::leading_zeros(digits) as u64 - 11
 }
 
 // The whole number nearest to the root of m * 2 ^ 52: a guess where it proves right, else a digit at a time.

@@ -1,37 +1,21 @@
 -- `float64::integral::round` meets its contract: the sign is taken off the bits and put back. Assumes nothing.
 use mathlib.Core.Path.{_≡_, sym, ap, _∙_, subst}
-use mathlib.Core.Bool.{Bool, true, false, not}
-use Prim.Native.Nat.{ℕ, _+_, _-_, _%_, _^_, _<_}
+use mathlib.Core.Bool.{true}
+use Prim.Native.Nat.{_+_, _-_, _%_, _^_}
 use lib.Dec.{T}
-use lib.Ieee.{Float, nan, inf, fin, binary64, ne, isNan, nanBits, toBits, ofBits, fits}
-use lib.Ieee.Bits.{ofBits-toBits, toBits-lt, nanBits-is}
-use lib.Ieee.Compare.{differs-from-itself, nan-differs}
+use lib.Ieee.{Float, nan, binary64, ne, toBits}
+use lib.Ieee.Compare.{differs-from-itself}
 use borrow.Author.Needs.{needs}
 use Rattle.float64.specs.Functions.{roundAway}
 use Rattle.float64.specs.RoundLaws.{round-away-nan, round-away-fits}
+use Rattle.float64.proofs.Small.{not-nan}
+use Rattle.float64.proofs.Patterns.{in-width, read-back, no-nan}
 use Rattle.float64.proofs.Rounded.{magnitude-le, round-bits, round-no-nan}
 use Rattle.float64.proofs.integral.round.Statement.{statement}
 use Rattle.float64.proofs.integral.round.Tie as tie
 
 nan-stays : (x : Float) → ne x x ≡ true → x ≡ roundAway x
 nan-stays x h = let e : x ≡ nan = differs-from-itself x (subst T (sym h) tt) in e ∙ sym round-away-nan ∙ ap roundAway (sym e)
-
-not-nan : (x : Float) → ne x x ≡ false → T (not (isNan x))
-unfolding isNan
-not-nan nan h = subst T (sym nan-differs ∙ h) tt
-not-nan (inf s) h = tt
-not-nan (fin s m e) h = tt
-
--- b is the pattern of the rounded number
-module _ (x : Float) (b : ℕ) (is : b ≡ toBits binary64 (roundAway x)) where
-  in-width : b < 2 ^ 64
-  in-width = subst (λ (n : ℕ). n < 2 ^ 64) (sym is) (toBits-lt binary64 (roundAway x) (round-away-fits x))
-
-  read-back : ofBits binary64 b ≡ roundAway x
-  read-back = ap (ofBits binary64) is ∙ ofBits-toBits binary64 (roundAway x) (round-away-fits x)
-
-  no-nan : T (fits binary64 x) → T (not (isNan x)) → T (not (nanBits binary64 b))
-  no-nan f h = subst (λ (t : Bool). T (not t)) (sym (nanBits-is binary64 b ∙ ap isNan read-back)) (round-no-nan x f h)
 
 returns : tie.Need-returns
 returns c = nan-stays _ (c .if1 .taken)
@@ -49,13 +33,13 @@ sum-is : (c : tie.After-whole) → toBits binary64 (c .before .before .args .x) 
 sum-is c = round-bits _ (search needs) (not-nan _ (c .before .if1 .left)) _ (c .whole .ensures)
 
 add-result : tie.Need-add-result
-add-result c = record { fits = in-width _ _ (sum-is c) }
+add-result c = record { fits = in-width _ (round-away-fits _) _ (sum-is c) }
 
 float-from-bits-result : tie.Need-float-from-bits-result
-float-from-bits-result c = no-nan _ _ (sum-is c) (search needs) (not-nan _ (c .before .if1 .left))
+float-from-bits-result c = no-nan _ (round-away-fits _) _ (sum-is c) (round-no-nan _ (search needs) (not-nan _ (c .before .if1 .left)))
 
 returns-2 : tie.Need-returns-2
-returns-2 c = read-back _ _ (sum-is c)
+returns-2 c = read-back _ (round-away-fits _) _ (sum-is c)
 
 pub round-spec : {M : Type 1} → statement M
 round-spec =

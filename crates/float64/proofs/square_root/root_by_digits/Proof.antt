@@ -4,9 +4,6 @@ use borrow.Author.Needs.{needs}
 use Rattle.float64.proofs.Digits.{Partial, begin, one, nought, up, cut}
 use Rattle.float64.proofs.square_root.root_by_digits.Statement.{statement}
 use Rattle.float64.proofs.square_root.root_by_digits.Tie as tie
-use Rattle.float64.proofs.square_root.root_by_digits.Reads as reads
-use Rattle.float64.proofs.square_root.root_by_digits.Lts as lts
-use Rattle.float64.proofs.square_root.pair.Reads as pair-reads
 
 abbrev Inv-loop : tie.InvT-loop
 Inv-loop m root₀ rest₀ k₀ root rest k = (k ≤ 53) × Partial (m * 2 ^ 52) k root rest
@@ -14,71 +11,54 @@ Inv-loop m root₀ rest₀ k₀ root rest k = (k ≤ 53) × Partial (m * 2 ^ 52)
 abbrev μ-loop : tie.MeasureT-loop
 μ-loop m root₀ rest₀ k₀ root rest k = k
 
--- src/square_root.rt:71:5
 loop-holds : tie.Need-loop-holds Inv-loop μ-loop
 loop-holds c = (omega arith, begin _ (omega arith))
 
--- src/square_root.rt:72:9
 sub-k : tie.Need-sub-k Inv-loop μ-loop
 sub-k c = search needs
 
--- src/square_root.rt:73:17
 mul-r : tie.Need-mul-r Inv-loop μ-loop
 mul-r c = search needs
 
--- src/square_root.rt:73:28
 pair-requires : tie.Need-pair-requires Inv-loop μ-loop
 pair-requires c κs = search needs
 
--- src/square_root.rt:73:17
 add-r : tie.Need-add-r Inv-loop μ-loop
 add-r c = search needs
 
--- src/square_root.rt:74:17
 mul-t : tie.Need-mul-t Inv-loop μ-loop
 mul-t c = search needs
 
--- src/square_root.rt:74:17
 add-t : tie.Need-add-t Inv-loop μ-loop
 add-t c = search needs
 
--- src/square_root.rt:77:20
 mul-root : tie.Need-mul-root Inv-loop μ-loop
 mul-root c = search needs
 
--- src/square_root.rt:77:20
 add-root : tie.Need-add-root Inv-loop μ-loop
 add-root c = search needs
 
--- src/square_root.rt:71:5
 loop-less : tie.Need-loop-less Inv-loop μ-loop
 loop-less c = search needs
 
--- src/square_root.rt:71:5
 loop-again : tie.Need-loop-again Inv-loop μ-loop
 loop-again c = let at = c .before .before .before in (omega arith, one _ _ (at .loop .root) (at .loop .rest) (omega arith) (omega arith) (at .loop .inv .1) _ (omega arith) (c .if1 .taken))
 
--- src/square_root.rt:80:20
 mul-root-2 : tie.Need-mul-root-2 Inv-loop μ-loop
 mul-root-2 c = search needs
 
--- src/square_root.rt:71:5
 loop-less-2 : tie.Need-loop-less-2 Inv-loop μ-loop
 loop-less-2 c = search needs
 
--- src/square_root.rt:71:5
 loop-again-2 : tie.Need-loop-again-2 Inv-loop μ-loop
 loop-again-2 c = let at = c .before .before .before in (omega arith, nought _ _ (at .loop .root) (at .loop .rest) (omega arith) (omega arith) (at .loop .inv .1) _ (omega arith) (c .if1 .left))
 
--- src/square_root.rt:84:16
 add-result : tie.Need-add-result Inv-loop μ-loop
 add-result c = search needs
 
--- src/square_root.rt:84:9
 returns : tie.Need-returns Inv-loop μ-loop
 returns c = let at = c .before .before in up _ _ _ (at .loop .rest) (omega arith) (omega arith) (at .loop .inv .1) (c .if2 .taken)
 
--- src/square_root.rt:64:1
 returns-2 : tie.Need-returns-2 Inv-loop μ-loop
 returns-2 c = let at = c .before .before in cut _ _ _ (at .loop .rest) (omega arith) (omega arith) (at .loop .inv .1) (c .if2 .left)
 

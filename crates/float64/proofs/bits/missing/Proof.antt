@@ -1,19 +1,14 @@
 use native.Mathlib.Omega.{arith}
 use Rattle.float64.proofs.Normal.{leading}
-use Rattle.float64.proofs.square_root.missing.Statement.{statement}
-use Rattle.float64.proofs.square_root.missing.Tie as tie
-use Rattle.float64.proofs.square_root.missing.Reads as reads
-use Rattle.float64.proofs.square_root.missing.Lts as lts
+use Rattle.float64.proofs.bits.missing.Statement.{statement}
+use Rattle.float64.proofs.bits.missing.Tie as tie
 
--- src/square_root.rt:70:5
 cast-result : tie.Need-cast-result
 cast-result c = omega (arith, leading (c .args .digits) (c .pre .0) (c .pre .1) .most)
 
--- src/square_root.rt:70:5
 sub-result : tie.Need-sub-result
 sub-result c = leading (c .args .digits) (c .pre .0) (c .pre .1) .enough
 
--- src/square_root.rt:66:1
 returns : tie.Need-returns
 returns c = let l = leading (c .args .digits) (c .pre .0) (c .pre .1) in (l .shift, l .full, l .short)
 
