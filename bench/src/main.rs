@@ -13,6 +13,7 @@ const CALLS: usize = 2000;
 fn main() {
     heading("Rust");
     roots();
+    remainders();
     for degree in [1, 3, 5, 16] {
         bases(degree);
     }
@@ -28,6 +29,23 @@ fn roots() {
         &inputs,
         |&x| port::root(x),
         |&x| black_box(x).sqrt(),
+    );
+}
+
+/// Parameters near a domain of width 1, as a wrap meets them, and sizes up to 2 ^ 300 apart.
+fn remainders() {
+    let near = |i| (16. * i as f64 / CALLS as f64 - 8., 1.);
+    let far = |i| ((1. + 1e-4 * i as f64) * 2f64.powi(i as i32 % 301), 1.1);
+    remainders_of("rem_euclid, near", (0..CALLS).map(near).collect());
+    remainders_of("rem_euclid, far apart", (0..CALLS).map(far).collect());
+}
+
+fn remainders_of(name: &str, inputs: Vec<(f64, f64)>) {
+    compare(
+        name,
+        &inputs,
+        |&(x, y)| port::rem_euclid(x, y),
+        |&(x, y)| black_box(x).rem_euclid(black_box(y)),
     );
 }
 

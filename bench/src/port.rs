@@ -2,6 +2,7 @@
 //! the Rattle source but this file: a slice goes as a pointer and a length.
 unsafe extern "C" {
     fn time_root(x: f64) -> f64;
+    fn time_rem_euclid(x: f64, y: f64) -> f64;
     fn time_basis(
         knots: *const f64,
         knot_count: usize,
@@ -30,6 +31,10 @@ unsafe extern "C" {
 
 pub fn root(x: f64) -> f64 {
     unsafe { time_root(x) }
+}
+
+pub fn rem_euclid(x: f64, y: f64) -> f64 {
+    unsafe { time_rem_euclid(x, y) }
 }
 
 /// One number of each row. The knots have passed their checks.

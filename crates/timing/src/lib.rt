@@ -5,7 +5,7 @@ use surface::Counts;
 use surface::Shape;
 ghost use mathlib.Core.Path.{_≡_};
 ghost use mathlib.Core.Bool.{false};
-ghost use Rattle.float64.specs.Functions.{root};
+ghost use Rattle.float64.specs.Functions.{root, remEuclid};
 ghost use Rattle.spline.specs.Knots.{axis, refusalOfKnots};
 ghost use Rattle.spline.specs.declared.parameter.KnotSide.the-variants.{Right};
 ghost use Rattle.basis.specs.Basis.{basisAt};
@@ -17,6 +17,13 @@ pub extern "C" fn time_root(x: f64) -> f64
     ensures { λ r. ⌜ r ≡ root x ⌝ }
 {
     float64::root(x)
+}
+
+#[no_mangle]
+pub extern "C" fn time_rem_euclid(x: f64, y: f64) -> f64
+    ensures { λ r. ⌜ r ≡ remEuclid x y ⌝ }
+{
+    float64::rem_euclid(x, y)
 }
 
 #[no_mangle]
