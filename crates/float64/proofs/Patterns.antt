@@ -34,6 +34,7 @@ normal {n} {b} w h = go (w .leading)
     go (inl l) = (l, omega (arith, w .pattern, w .small))
     go (inr z) = (omega (arith, w .pattern), omega (arith, w .pattern, w .small))
 
+-- only 0 has the pattern 0
 pub above-nothing : {n b : ℕ} → 0 < n → Written n b → 0 < b
 above-nothing {n} {b} h w = go (w .c) refl
   where

@@ -40,10 +40,10 @@ last r l n h k = ap (λ (x : ℕ). x % n) (shl-exact 53 l 64 h (omega arith))
 
 -- ---- a pattern's digits, and the zeros after them
 
-abbrev pub zerosOf : ℕ → ℕ
+abbrev zerosOf : ℕ → ℕ
 zerosOf b = b / 2 ^ 52 - 1
 
-abbrev pub digitsOf : ℕ → ℕ
+abbrev digitsOf : ℕ → ℕ
 digitsOf b = b - zerosOf b * 2 ^ 52
 
 read : (b : ℕ) → Written (digitsOf b * 2 ^ zerosOf b) b
@@ -132,13 +132,16 @@ same-size (inf t) s a c b l C h v = v
 same-size (fin t m e) s a c b l C h v =
     (v .0, eq-of-mul-eq-mul-right c C (m * up e * l) (b * down e) (mul-right-comm (m * up e) l c ∙ ap (λ (x : ℕ). x * l) (v .1) ∙ mul-right-comm a (down e) l ∙ ap (λ (x : ℕ). x * down e) h ∙ mul-right-comm b c (down e)))
 
--- the number of a double's pattern without its sign
-module _ (s : Bool) (m : ℕ) (e : ℤ) (f : T (fits binary64 (fin s m e))) where
-  magnitude : toBits binary64 (fin s m e) % 2 ^ 63 ≡ toBits binary64 (fin false m e)
-  magnitude = ap (λ (b : ℕ). b % 2 ^ 63) (toBits-sign s m e) ∙ sign-off s (toBits binary64 (fin false m e)) (le-of-lt (toBits-finite s m e f))
+abbrev plain : Float → ℕ
+plain x = toBits binary64 x % 2 ^ 63
 
-  units-of-bits : unitsOfBits (toBits binary64 (fin s m e) % 2 ^ 63) ≡ unitsOf m e
-  units-of-bits = ap unitsOfBits magnitude ∙ units-of-written (toBits-written s m e f)
+-- a double's pattern without its sign, and its number
+module _ (s : Bool) (m : ℕ) (e : ℤ) (f : T (fits binary64 (fin s m e))) where
+  plain-is : plain (fin s m e) ≡ toBits binary64 (fin false m e)
+  plain-is = ap (λ (b : ℕ). b % 2 ^ 63) (toBits-sign s m e) ∙ sign-off s (toBits binary64 (fin false m e)) (le-of-lt (toBits-finite s m e f))
+
+  plain-units : unitsOfBits (plain (fin s m e)) ≡ unitsOf m e
+  plain-units = ap unitsOfBits plain-is ∙ units-of-written (toBits-written s m e f)
 
 infinite : unitsOfBits (2047 * 2 ^ 52) ≡ 2 ^ 2098
 unfolding unitsOfBits
@@ -147,25 +150,25 @@ infinite = refl
 -- What the patterns are without their signs, and what the remainder is by them. An infinity's stands for 2 ^ 2098 units, more than any double has.
 pub record Divided (x y : Float) : Type 0 where
   pub s : Bool
-  pub bits : toBits binary64 x ≡ cond s (2 ^ 63) 0 + toBits binary64 x % 2 ^ 63
-  pub finite : toBits binary64 x % 2 ^ 63 < 2047 * 2 ^ 52
-  pub above : 0 < toBits binary64 y % 2 ^ 63
-  pub most : toBits binary64 y % 2 ^ 63 ≤ 2047 * 2 ^ 52
-  pub value : HasValue (rem binary64 x y) s (unitsOfBits (toBits binary64 x % 2 ^ 63) % unitsOfBits (toBits binary64 y % 2 ^ 63)) (2 ^ 1074)
+  pub bits : toBits binary64 x ≡ cond s (2 ^ 63) 0 + plain x
+  pub finite : plain x < 2047 * 2 ^ 52
+  pub above : 0 < plain y
+  pub most : plain y ≤ 2047 * 2 ^ 52
+  pub value : HasValue (rem binary64 x y) s (unitsOfBits (plain x) % unitsOfBits (plain y)) (2 ^ 1074)
 
 module _ (s : Bool) (m : ℕ) (e : ℤ) (f : T (fits binary64 (fin s m e))) where
-  with-sign : toBits binary64 (fin s m e) ≡ cond s (2 ^ 63) 0 + toBits binary64 (fin s m e) % 2 ^ 63
-  with-sign = toBits-sign s m e ∙ ap (λ (b : ℕ). cond s (2 ^ 63) 0 + b) (sym (magnitude s m e f))
+  with-sign : toBits binary64 (fin s m e) ≡ cond s (2 ^ 63) 0 + plain (fin s m e)
+  with-sign = toBits-sign s m e ∙ ap (λ (b : ℕ). cond s (2 ^ 63) 0 + b) (sym (plain-is s m e f))
 
-  below-infinity : toBits binary64 (fin s m e) % 2 ^ 63 < 2047 * 2 ^ 52
-  below-infinity = subst (λ (b : ℕ). b < 2047 * 2 ^ 52) (sym (magnitude s m e f)) (toBits-finite s m e f)
+  below-infinity : plain (fin s m e) < 2047 * 2 ^ 52
+  below-infinity = subst (λ (b : ℕ). b < 2047 * 2 ^ 52) (sym (plain-is s m e f)) (toBits-finite s m e f)
 
   by-infinity : (t : Bool) → Divided (fin s m e) (inf t)
   unfolding rem
   by-infinity t =
-      let B : toBits binary64 (inf t) % 2 ^ 63 ≡ 2047 * 2 ^ 52 = ap (λ (b : ℕ). b % 2 ^ 63) (toBits-inf t) ∙ sign-off t (2047 * 2 ^ 52) (lit≤ tt) in
-      let n : unitsOfBits (toBits binary64 (fin s m e) % 2 ^ 63) % unitsOfBits (toBits binary64 (inf t) % 2 ^ 63) ≡ unitsOf m e =
-      ap₂ (λ (x y : ℕ). x % y) (units-of-bits s m e f) (ap unitsOfBits B ∙ infinite) ∙ mod-eq-of-lt (units-under (double s m e f)) in
+      let B : plain (inf t) ≡ 2047 * 2 ^ 52 = ap (λ (b : ℕ). b % 2 ^ 63) (toBits-inf t) ∙ sign-off t (2047 * 2 ^ 52) (lit≤ tt) in
+      let n : unitsOfBits (plain (fin s m e)) % unitsOfBits (plain (inf t)) ≡ unitsOf m e =
+      ap₂ (λ (x y : ℕ). x % y) (plain-units s m e f) (ap unitsOfBits B ∙ infinite) ∙ mod-eq-of-lt (units-under (double s m e f)) in
       record {
         s = s;
         bits = with-sign;
@@ -180,19 +183,19 @@ module _ (s : Bool) (m : ℕ) (e : ℤ) (f : T (fits binary64 (fin s m e))) wher
       let X = double s m e f in
       let Y = double t (suc n) d g in
       let N : 0 < suc n = zero-lt-suc n in
-      let x = unitsOfBits (toBits binary64 (fin s m e) % 2 ^ 63) in
-      let y = unitsOfBits (toBits binary64 (fin t (suc n) d) % 2 ^ 63) in
+      let x = unitsOfBits (plain (fin s m e)) in
+      let y = unitsOfBits (plain (fin t (suc n) d)) in
       let r = rem binary64 (fin s m e) (fin t (suc n) d) in
       let a = m * up e * down d % (suc n * up d * down e) in
       let c = down e * down d in
-      let u : x % y ≡ m * 2 ^ X .shift % (suc n * 2 ^ Y .shift) = ap₂ (λ (z w : ℕ). z % w) (units-of-bits s m e f ∙ units-shifted X) (units-of-bits t (suc n) d g ∙ units-shifted Y) in
+      let u : x % y ≡ m * 2 ^ X .shift % (suc n * 2 ^ Y .shift) = ap₂ (λ (z w : ℕ). z % w) (plain-units s m e f ∙ units-shifted X) (plain-units t (suc n) d g ∙ units-shifted Y) in
       let h : 0 < unitsOf (suc n) d = subst (λ (z : ℕ). 0 < z) (sym (units-shifted Y)) (mul-pos N (pow-pos (Y .shift))) in
       record {
         s = s;
         bits = with-sign;
         finite = below-infinity;
-        above = subst (λ (b : ℕ). 0 < b) (sym (magnitude t (suc n) d g)) (above-nothing h (toBits-written t (suc n) d g));
-        most = le-of-lt (subst (λ (b : ℕ). b < 2047 * 2 ^ 52) (sym (magnitude t (suc n) d g)) (toBits-finite t (suc n) d g));
+        above = subst (λ (b : ℕ). 0 < b) (sym (plain-is t (suc n) d g)) (above-nothing h (toBits-written t (suc n) d g));
+        most = le-of-lt (subst (λ (b : ℕ). b < 2047 * 2 ^ 52) (sym (plain-is t (suc n) d g)) (toBits-finite t (suc n) d g));
         value = same-size r s a c (x % y) (2 ^ 1074) (mul-pos (down-pos e) (down-pos d)) (rem-units X Y N ∙ ap (λ (z : ℕ). z * c) (sym u)) (rem-exact s m e t (suc n) d f g N);
       }
 
@@ -207,8 +210,8 @@ divided (fin s m e) (fin t (suc n) d) f g h k z = by-double s m e f t n d g
 
 -- the sign's bit is taken off, and put back to the remainder's pattern
 module _ {x y : Float} (d : Divided x y) where
-  pub rem-bits : (r : ℕ) → unitsOfBits r ≡ unitsOfBits (toBits binary64 x % 2 ^ 63) % unitsOfBits (toBits binary64 y % 2 ^ 63) → toBits binary64 x - toBits binary64 x % 2 ^ 63 + r ≡ toBits binary64 (rem binary64 x y)
+  pub rem-bits : (r : ℕ) → unitsOfBits r ≡ unitsOfBits (plain x) % unitsOfBits (plain y) → toBits binary64 x - plain x + r ≡ toBits binary64 (rem binary64 x y)
   rem-bits r e = omega (arith, d .bits, written-toBits (subst (λ (n : ℕ). Written n r) (sym (counted r) ∙ e) (read r)) (rem binary64 x y) (d .s) (d .value))
 
   pub rem-number : T (not (isNan (rem binary64 x y)))
-  rem-number = number (rem binary64 x y) (finite→number (rem binary64 x y) (finite-of-value (rem binary64 x y) (d .s) (unitsOfBits (toBits binary64 x % 2 ^ 63) % unitsOfBits (toBits binary64 y % 2 ^ 63)) (2 ^ 1074) (d .value)))
+  rem-number = number (rem binary64 x y) (finite→number (rem binary64 x y) (finite-of-value (rem binary64 x y) (d .s) (unitsOfBits (plain x) % unitsOfBits (plain y)) (2 ^ 1074) (d .value)))

@@ -1,8 +1,21 @@
 -- The definition's own test, with what `remainder` and `abs` ensure.
+use mathlib.Core.Path.{_≡_}
+use mathlib.Core.Bool.{true, false}
+use lib.Ieee.{Float, binary64, rem, lt}
 use borrow.Author.Needs.{needs}
-use Rattle.float64.specs.Functions.{remEuclid}
+use Rattle.float64.specs.Operators.{_⊕_, 0·}
+use Rattle.float64.specs.Functions.{abs, remEuclid}
 use Rattle.float64.proofs.rem_euclid.Statement.{statement}
 use Rattle.float64.proofs.rem_euclid.Tie as tie
+
+module _ (x y : Float) {r : Float} (e : r ≡ rem binary64 x y) where
+  moved : (a : Float) → a ≡ abs y → lt r 0· ≡ true → r ⊕ a ≡ remEuclid x y
+  unfolding remEuclid
+  moved a g h = rw (← e, h, g)
+
+  kept : lt r 0· ≡ false → r ≡ remEuclid x y
+  unfolding remEuclid
+  kept h = rw (← e, h)
 
 remainder-requires : tie.Need-remainder-requires
 remainder-requires c κs = search needs
@@ -11,12 +24,10 @@ abs-requires : tie.Need-abs-requires
 abs-requires c κs = search needs
 
 returns : tie.Need-returns
-unfolding remEuclid
-returns c = rw (← c .before .before .remainder .ensures, c .before .if1 .taken, c .abs .ensures)
+returns c = moved _ _ (c .before .before .remainder .ensures) _ (c .abs .ensures) (c .before .if1 .taken)
 
 returns-2 : tie.Need-returns-2
-unfolding remEuclid
-returns-2 c = rw (← c .before .remainder .ensures, c .if1 .left)
+returns-2 c = kept _ _ (c .before .remainder .ensures) (c .if1 .left)
 
 pub rem-euclid-spec : {M : Type 1} → statement M
 rem-euclid-spec = tie.close (tie.spec remainder-requires abs-requires returns returns-2)
