@@ -270,19 +270,21 @@ def read(text):
 
 
 def library():
-    """The proved library, as a shared object."""
+    """Where the proved library lies, as a shared object."""
     here = Path(__file__).resolve().parent
-    named, beside = os.environ.get("PLACING_LIBRARY"), here / "libplacing.so"
-    if named or beside.exists():
-        return ctypes.CDLL(named or str(beside))
+    beside, own = here / "libplacing.so", here.parent / "target" / "shared" / "libplacing.so"
+    if "PLACING_LIBRARY" in os.environ:
+        return os.environ["PLACING_LIBRARY"]
+    if beside.exists():
+        return beside
     if subprocess.run(["make", "-s", "-C", here.parent / "bindings" / "c", "shared"], stdout=sys.stderr).returncode:
-        raise Malformed("libplacing.so is not built: PLACING_LIBRARY may name one")
-    return ctypes.CDLL(str(here.parent / "target" / "shared" / "libplacing.so"))
+        raise Malformed("libplacing.so is not built: PLACING_LIBRARY may name one that is")
+    return own
 
 
 def evaluator(job):
     """From a pair to its surface point, by the library."""
-    call = library().placing_evaluate
+    call = ctypes.CDLL(str(library())).placing_evaluate
     call.restype = ctypes.c_uint64
 
     def lent(numbers):

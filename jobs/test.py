@@ -14,6 +14,7 @@ import unittest
 from concurrent.futures import ThreadPoolExecutor
 from pathlib import Path
 
+sys.dont_write_bytecode = True
 import job
 
 HERE = Path(__file__).resolve().parent
@@ -118,6 +119,8 @@ class Program(unittest.TestCase):
 
     def test_alone_in_an_empty_root(self):
         command = ["chroot"] if os.geteuid() == 0 else ["unshare", "--map-root-user", "chroot"]
+        if subprocess.run([*command, "/", "true"], stderr=subprocess.DEVNULL).returncode:
+            self.skipTest("no other root may be had here")
         with tempfile.TemporaryDirectory() as root:
             shutil.copy(program, root)
             with open(HERE / "square.job", "rb") as source:
@@ -162,6 +165,27 @@ class Program(unittest.TestCase):
         cargo = (HERE.parent / "bindings" / "rust" / "Cargo.toml").read_text()
         (version,) = (line.split('"')[1] for line in cargo.splitlines() if line.startswith("version ="))
         self.assertEqual((wrote, said), (b"", f"place {version}\nusage: place < JOB > PRINTOUT\n"))
+
+
+class Service(unittest.TestCase):
+    """As docs/BOX.md has it: four files in one folder, the jobs in another."""
+
+    def test_place_and_check(self):
+        with tempfile.TemporaryDirectory() as box, tempfile.TemporaryDirectory() as jobs:
+            for file in (program, HERE / "job.py", HERE / "place-and-check"):
+                shutil.copy(file, box)
+            shutil.copy(job.library(), box)
+            for name, text, kept in (
+                ("near", TEXT.replace("tolerance 0.5", "tolerance 0.75"), True),
+                ("far", TEXT, False),
+                ("short", TEXT.replace("budget 1000", "budget 1"), False),
+                ("none", TEXT[: TEXT.index("mark")], True),
+            ):
+                Path(jobs, name + ".job").write_bytes(job.pack(text))
+                ran = subprocess.run([Path(box, "place-and-check"), name], cwd=jobs, capture_output=True, timeout=60)
+                self.assertEqual((ran.returncode == 0, ran.stdout), (kept, b""))
+                self.assertEqual(Path(jobs, name + ".printout").exists(), kept)
+            self.assertNotEqual(subprocess.run([Path(box, "place-and-check"), "missing"], cwd=jobs, stderr=subprocess.DEVNULL).returncode, 0)
 
 
 class Words(unittest.TestCase):
