@@ -1,8 +1,9 @@
--- What is read of a caller's numbers, and what an evaluation and a placing write. Assumes nothing.
+-- What is read of a caller's numbers, and what an evaluation, a placing and a job write. Assumes nothing.
 use mathlib.Core.Path.{_≡_, refl, sym, ap, _∙_}
 use mathlib.Core.Bool.{Bool, _&&_}
 use mathlib.Core.List.{List, [], _∷_}
 use Prim.Native.Nat.{ℕ, zero, suc, _-_, _≤_, _<_}
+use native.Mathlib.Nat.{zero-add}
 use native.Mathlib.Omega.{arith}
 use lib.ListN.{length, getD, set, length-set}
 use lib.Ieee.{Float, nan}
@@ -15,7 +16,8 @@ use Rattle.chart.specs.declared.Placing.{Placing}
 use Rattle.chart.specs.declared.Placing.the-variants.{Pair, Refusal}
 use Rattle.chart.specs.Chart.{numberOf, leftOf}
 use Rattle.row.specs.RowLaws.{takenOf}
-use Rattle.lent.specs.Lent.{Evaluates, Places, hintOf, periodOf, numbersOf, jetInto, pairInto, leftInto, placingInto}
+use Rattle.digits.specs.Text.{Put, written}
+use Rattle.lent.specs.Lent.{Evaluates, Places, Prints, hintOf, periodOf, numbersOf, jetInto, pairInto, leftInto, placingInto, printoutInto}
 
 -- ---- what is read
 
@@ -104,3 +106,13 @@ laid-pair [] xs l k h = absurd (omega arith)
 laid-pair (b ∷ bs) [] l k h = absurd (omega arith)
 laid-pair (b ∷ bs) (x ∷ []) l k h = absurd (omega arith)
 laid-pair (b ∷ bs) (x ∷ (y ∷ xs)) l k h = rw h refl
+
+-- ---- a job
+
+abbrev prints : ℕ → List ℕ → List ℕ → Prints
+prints number printout written = record { number = number; printout = printout; written = written }
+
+pub laid-text : {text xs ys : List ℕ} {next : ℕ} (ns : List ℕ) → 1 ≤ length ns → Put 0 text xs ys next → prints 0 ys (set ns 0 (length text)) ≡ printoutInto text xs ns
+unfolding written printoutInto
+laid-text [] l p = absurd (omega arith)
+laid-text (n ∷ ns) l p = rw (p .whole) (rw zero-add refl)

@@ -3,7 +3,7 @@ use Prim.Native.Nat.{ℕ, _+_, _%_}
 use mathlib.Core.Bool.{Bool, _&&_, _||_}
 use mathlib.Core.List.{List, [], _∷_, _++_}
 use lib.Dec.{leb, ltb, eqb}
-use lib.ListN.{take, drop, getD}
+use lib.ListN.{length, take, drop, getD}
 use lib.Ieee.{Float}
 use Rattle.patch.specs.declared.Jet.{Jet}
 use Rattle.surface.specs.declared.Shape.{Shape}
@@ -76,6 +76,10 @@ fitsDerivative flags budget pair = soundFlags flags && roomy budget pair
 unfoldable pub fitsEdges : (flags collapsed edges : ℕ) → Bool
 fitsEdges flags collapsed edges = soundFlags flags && roomyEdges collapsed edges
 
+-- every printout fits, and its count is written
+unfoldable pub fitsJob : (printout written : ℕ) → Bool
+fitsJob printout written = leb 69632 printout && leb 1 written
+
 -- ---- an evaluation
 
 -- the number of its refusal, 0 where there is none, and the lent numbers afterwards
@@ -140,3 +144,15 @@ unfoldable pub edgesInto : Edges → List ℕ → List Float → Tells
 edgesInto (Edges.Refusal n) collapsed edges = record { number = n; collapsed = collapsed; edges = edges }
 edgesInto (Edges.Found a b c d) collapsed edges =
     record { number = 0; collapsed = flagOf a ∷ (flagOf b ∷ (flagOf c ∷ (flagOf d ∷ drop 4 collapsed))); edges = edgeAt 15 d (edgeAt 10 c (edgeAt 5 b (edgeAt 0 a edges))) }
+
+-- ---- a job
+
+-- the number that is answered, and the lent bytes and numbers afterwards
+pub record Prints : Type 0 where
+  pub number : ℕ
+  pub printout : List ℕ
+  pub written : List ℕ
+
+-- the text, then all later bytes as they were, and how long the text is
+unfoldable pub printoutInto : List ℕ → List ℕ → List ℕ → Prints
+printoutInto text printout written = record { number = 0; printout = text ++ drop (length text) printout; written = firstOf (length text) written }

@@ -1,10 +1,11 @@
 // An answer, written to what the caller lent.
 use chart::Placing;
+use digits::put;
 use surface::Evaluation;
 ghost use mathlib.Core.Path.{_≡_};
 ghost use Prim.Native.Nat.{_≤_};
 ghost use lib.ListN.{length, getD};
-ghost use Rattle.lent.specs.Lent.{jetInto, placingInto};
+ghost use Rattle.lent.specs.Lent.{jetInto, placingInto, printoutInto};
 ghost use Rattle.row.specs.RowLaws.{takenOf};
 
 pub fn lay_jet(found: Evaluation, jet: &mut [f64]) -> u64
@@ -45,4 +46,13 @@ pub fn lay_placing(placing: Placing, budget: &mut [u64], pair: &mut [f64]) -> u6
             number
         }
     }
+}
+
+pub fn lay_printout(text: &[u8], printout: &mut [u8], written: &mut [u64]) -> u64
+    requires { ⌜ (length (now text) ≤ length (now printout)) × (1 ≤ length (now written)) ⌝ }
+    ensures { λ r. ⌜ record { number = r; printout = now (printout .exit); written = now (written .exit) } ≡ printoutInto (now (text .entry)) (now (printout .entry)) (now (written .entry)) ⌝ }
+{
+    put(printout, 0, text);
+    written[0] = text.len() as u64;
+    0
 }

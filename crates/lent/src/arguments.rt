@@ -1,10 +1,11 @@
 // A caller's numbers, and whether they fit: flags, and the counts of what is lent.
 use chart::Period;
 use inversion::Hint;
+use job::MOST_PRINTED;
 use surface::Counts;
 use surface::Shape;
 ghost use mathlib.Core.Path.{_≡_};
-ghost use Rattle.lent.specs.Lent.{shapeOf, hintOf, periodOf, soundFlags, soundOptions, roomy, roomyRow, roomyEdges, fitsJet, fitsInversion, fitsRow, fitsDerivative, fitsEdges};
+ghost use Rattle.lent.specs.Lent.{shapeOf, hintOf, periodOf, soundFlags, soundOptions, roomy, roomyRow, roomyEdges, fitsJet, fitsInversion, fitsRow, fitsDerivative, fitsEdges, fitsJob};
 
 pub fn shape_of(du: usize, dv: usize, nu: usize, nv: usize, flags: u64) -> Shape
     ensures { λ r. ⌜ r ≡ shapeOf du dv nu nv flags ⌝ }
@@ -106,4 +107,10 @@ pub fn fits_edges(flags: u64, collapsed: usize, edges: usize) -> bool
     ensures { λ r. ⌜ r ≡ fitsEdges flags collapsed edges ⌝ }
 {
     sound_flags(flags) & roomy_edges(collapsed, edges)
+}
+
+pub fn fits_job(printout: usize, written: usize) -> bool
+    ensures { λ r. ⌜ r ≡ fitsJob printout written ⌝ }
+{
+    (MOST_PRINTED <= printout) & (1 <= written)
 }

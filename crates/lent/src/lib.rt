@@ -5,10 +5,12 @@ mod ends;
 
 pub use answers::lay_jet;
 pub use answers::lay_placing;
+pub use answers::lay_printout;
 pub use arguments::fits_derivative;
 pub use arguments::fits_edges;
 pub use arguments::fits_inversion;
 pub use arguments::fits_jet;
+pub use arguments::fits_job;
 pub use arguments::fits_row;
 pub use arguments::hint_of;
 pub use arguments::period_of;

@@ -1,10 +1,11 @@
 -- The two cases of each call: an argument does not fit, or the answer is laid out. Assumes nothing.
 use mathlib.Core.Path.{_≡_, refl, sym, ap, _∙_}
 use mathlib.Core.Bool.{Bool, true, false}
-use mathlib.Core.List.{List}
+use mathlib.Core.List.{List, _++_}
 use Prim.Native.Nat.{ℕ, _≤_}
 use native.Mathlib.Omega.{arith}
-use lib.ListN.{getD}
+use lib.ListN.{length, take, getD, length-append}
+use lib.Seq.{take-at}
 use lib.Ieee.{Float}
 use Rattle.vector3.specs.declared.Vector3.{Vector3}
 use Rattle.surface.specs.declared.Shape.{Shape}
@@ -20,8 +21,9 @@ use Rattle.row.specs.Row.{Rowed, rowInto, written, numberOf, indexOf, leftOf}
 use Rattle.row.specs.RowLaws.{takenOf}
 use Rattle.edges.specs.declared.Edges.{Edges}
 use Rattle.edges.specs.Edges.{singular}
-use Rattle.lent.specs.Lent.{Evaluates, Places, Tells, jetInto, placingInto, firstOf, edgesInto}
-use Rattle.placing.specs.Boundary.{Rows, evaluatesIf, placesIf, rowsIf, tellsIf}
+use Rattle.job.specs.Printout.{printout}
+use Rattle.lent.specs.Lent.{Evaluates, Places, Tells, Prints, jetInto, placingInto, firstOf, edgesInto, printoutInto}
+use Rattle.placing.specs.Boundary.{Rows, evaluatesIf, placesIf, rowsIf, tellsIf, printsIf}
 
 -- ---- an evaluation
 
@@ -106,3 +108,26 @@ module _ (found : Edges) (ns : List ℕ) (xs : List Float) {b fit : Bool} (e : b
 
 pub singular-by : (ku kv cs ws : List Float) (tolerance : Float) {s t : Shape} → s ≡ t → {q : Edges} → q ≡ singular (surface s ku kv cs ws) tolerance → q ≡ singular (surface t ku kv cs ws) tolerance
 singular-by ku kv cs ws tolerance h k = k ∙ ap (λ x. singular (surface x ku kv cs ws) tolerance) h
+
+-- ---- a job
+
+abbrev prints : ℕ → List ℕ → List ℕ → Prints
+prints number printout written = record { number = number; printout = printout; written = written }
+
+pub job-unfit : (text xs ns : List ℕ) {b fit : Bool} → b ≡ fit → b ≡ false → prints 99 xs ns ≡ printsIf fit text xs ns
+unfolding printsIf
+job-unfit text xs ns e h = rw (sym e ∙ h) refl
+
+module _ (file rest : List ℕ) {text : List ℕ} {n : ℕ} (p : (text ≡ printout file ++ rest) × ((n ≡ length (printout file)) × (n ≤ 69632))) where
+  pub front-inside : n ≤ length text
+  front-inside = omega (arith, p .1 .0, simp length-append at (ap length (p .0)))
+
+  front : take n text ≡ printout file
+  front = ap (take n) (p .0) ∙ take-at (printout file) rest n (sym (p .1 .0))
+
+  pub front-length : n ≡ length (take n text)
+  front-length = p .1 .0 ∙ ap length (sym front)
+
+  pub job-fits : (xs ns : List ℕ) {b fit : Bool} → b ≡ fit → b ≡ true → {k : ℕ} {ys ms : List ℕ} → prints k ys ms ≡ printoutInto (take n text) xs ns → prints k ys ms ≡ printsIf fit (printout file) xs ns
+  unfolding printsIf
+  job-fits xs ns e h q = rw (sym e ∙ h) (q ∙ ap (λ t. printoutInto t xs ns) front)

@@ -15,7 +15,8 @@ use Rattle.inverter.specs.Preimage.{derived}
 use Rattle.row.specs.Row.{Rowed, rowInto, written, numberOf, indexOf, leftOf}
 use Rattle.edges.specs.declared.Edges.{Edges}
 use Rattle.edges.specs.Edges.{singular}
-use Rattle.lent.specs.Lent.{hintOf, periodOf, roomy, fitsJet, fitsInversion, fitsRow, fitsDerivative, fitsEdges, Evaluates, jetInto, Places, placingInto, firstOf, Tells, edgesInto}
+use Rattle.job.specs.Printout.{printout}
+use Rattle.lent.specs.Lent.{hintOf, periodOf, roomy, fitsJet, fitsInversion, fitsRow, fitsDerivative, fitsEdges, fitsJob, Evaluates, jetInto, Places, placingInto, firstOf, Tells, edgesInto, Prints, printoutInto}
 
 abbrev pub vector : Float → Float → Float → Vector3
 vector x y z = record { x = x; y = y; z = z }
@@ -73,3 +74,12 @@ tellsIf true found collapsed edges = edgesInto found collapsed edges
 
 unfoldable pub tells : ℕ → Surface → Float → List ℕ → List Float → Tells
 tells flags s tolerance collapsed edges = tellsIf (fitsEdges flags (length collapsed) (length edges)) (singular s tolerance) collapsed edges
+
+-- ---- a job
+
+unfoldable pub printsIf : Bool → List ℕ → List ℕ → List ℕ → Prints
+printsIf false text out written = record { number = 99; printout = out; written = written }
+printsIf true text out written = printoutInto text out written
+
+unfoldable pub prints : (file out written : List ℕ) → Prints
+prints file out written = printsIf (fitsJob (length out) (length written)) (printout file) out written

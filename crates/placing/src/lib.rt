@@ -5,16 +5,20 @@ use inverter::Frame;
 use inverter::derivative;
 use inverter::invert;
 use inverter::invert_plane;
+use job::MOST_PRINTED;
+use job::job;
 use lent::fits_derivative;
 use lent::fits_edges;
 use lent::fits_inversion;
 use lent::fits_jet;
+use lent::fits_job;
 use lent::fits_row;
 use lent::hint_of;
 use lent::lay_edges;
 use lent::lay_ended;
 use lent::lay_jet;
 use lent::lay_placing;
+use lent::lay_printout;
 use lent::period_of;
 use lent::roomy;
 use lent::shape_of;
@@ -24,7 +28,7 @@ use vector3::Vector3;
 ghost use mathlib.Core.Path.{_≡_};
 ghost use Rattle.surface.specs.Surface.{surface};
 ghost use Rattle.lent.specs.Lent.{shapeOf};
-ghost use Rattle.placing.specs.Boundary.{vector, evaluates, inverts, rows, derives, tells, locates};
+ghost use Rattle.placing.specs.Boundary.{vector, evaluates, inverts, rows, derives, tells, locates, prints};
 
 // Answered, before any other check and with nothing written, where flags are above 3, a hint or a period has another count of numbers, or a slice is too short for what is to be written. No document gives this number a meaning of its own.
 const UNFIT: u64 = 99;
@@ -258,4 +262,17 @@ pub extern "C" fn placing_plane(
     let mark = Vector3 { x, y, z };
     let placing = invert_plane(frame, mark, budget[0]);
     lay_placing(placing, budget, pair)
+}
+
+// The printout of a job file, and how many bytes it has. A malformed file is no refusal of the call: it prints `refused 12 at 0`.
+#[no_mangle]
+pub extern "C" fn placing_job(file: &[u8], printout: &mut [u8], written: &mut [u64]) -> u64
+    ensures { λ r. ⌜ record { number = r; printout = now (printout .exit); written = now (written .exit) } ≡ prints (now (file .entry)) (now (printout .entry)) (now (written .entry)) ⌝ }
+{
+    if !fits_job(printout.len(), written.len()) {
+        return UNFIT;
+    }
+    let mut text = [0u8; MOST_PRINTED];
+    let count = job(file, &mut text);
+    lay_printout(&text[..count], printout, written)
 }
