@@ -1,5 +1,5 @@
 //! Places marks on a dome, one by itself and then a row: cargo run --example place
-use placing::{Edge, Hint, Period, Search, Surface};
+use placing::{Edge, Search, Surface};
 use std::error::Error;
 
 fn main() -> Result<(), Box<dyn Error>> {
@@ -20,9 +20,8 @@ fn main() -> Result<(), Box<dyn Error>> {
         weights: &[1.; 9],
     };
     let search = Search {
-        hint: Hint::Nothing,
         tolerance: 1e-9,
-        periods: [Period::Free; 2],
+        ..Search::default()
     };
 
     let mut budget = 100_000;
@@ -33,11 +32,11 @@ fn main() -> Result<(), Box<dyn Error>> {
         at.point
     );
 
-    let marks = [0.5, 0.5, 0.25, 0.75, 0.5, 0.5, 1., 0.5, 0.5];
-    let mut pairs = [0.; 6];
+    let marks = [[0.5, 0.5, 0.25], [0.75, 0.5, 0.5], [1., 0.5, 0.5]];
+    let mut pairs = [[0.; 2]; 3];
     dome.row(&marks, &search, &mut budget, &mut pairs)?;
-    for pair in pairs.chunks(2) {
-        println!("then u {:.6}, v {:.6}", pair[0], pair[1]);
+    for [u, v] in pairs {
+        println!("then u {u:.6}, v {v:.6}");
     }
     println!("{budget} units are left");
 

@@ -5,7 +5,7 @@
 //! lent is written to, but for a budget and a row's answers.
 //!
 //! ```
-//! use placing::{Hint, Period, Refusal, Search, Surface};
+//! use placing::{Refusal, Search, Surface};
 //!
 //! // Degrees 1 and 1: the point at (u, v) is (u, v, 0).
 //! let square = Surface {
@@ -16,7 +16,7 @@
 //!     controls: &[0., 0., 0., 0., 1., 0., 1., 0., 0., 1., 1., 0.],
 //!     weights: &[1.; 4],
 //! };
-//! let search = Search { hint: Hint::Nothing, tolerance: 0.5, periods: [Period::Free; 2] };
+//! let search = Search { tolerance: 0.5, ..Search::default() };
 //!
 //! // A unit of the budget is an evaluation of the surface.
 //! let mut budget = 100;
@@ -27,6 +27,13 @@
 //! assert_eq!(square.invert([0.25, 0.5, 0.75], &search, &mut budget), Err(Refusal::Units));
 //! assert_eq!(budget, 0);
 //! ```
+//!
+//! Nothing is shared between calls: any number of threads may call at once, on one surface too. A
+//! call takes at most STACK_CALL of stack, and [`job`] STACK_JOB; the library allocates nothing.
+//!
+//! The build links `libplacing.a` from the folder that the environment variable
+//! `PLACING_LIBRARY_DIR` names, an absolute path, and where it is not set from `target/staticlib`
+//! of the repository that this crate is a part of.
 pub mod raw;
 mod refusal;
 
@@ -58,22 +65,25 @@ pub struct Surface<'a> {
 }
 
 /// Where to look first, and the turn of the answer where an axis has a period.
-#[derive(Clone, Copy, Debug, PartialEq)]
+#[derive(Clone, Copy, Debug, Default, PartialEq)]
 pub enum Hint {
+    #[default]
     Nothing,
     At(Pair),
 }
 
-/// The period of an axis, by which an answer is moved to the hint's turn. The surface's own flag
-/// is another matter.
-#[derive(Clone, Copy, Debug, PartialEq)]
+/// The period of an axis, by which an answer is moved to the hint's turn: it is then infinite where
+/// the hint lies too many periods away. The surface's own flag is another matter.
+#[derive(Clone, Copy, Debug, Default, PartialEq)]
 pub enum Period {
+    #[default]
     Free,
     Every(f64),
 }
 
-/// What guides a search.
-#[derive(Clone, Copy, Debug, PartialEq)]
+/// What guides a search. By default there is no hint, the tolerance is 0 and neither axis has a
+/// period.
+#[derive(Clone, Copy, Debug, Default, PartialEq)]
 pub struct Search {
     pub hint: Hint,
     /// How near to the mark the end of the hint's run is good enough.
@@ -121,7 +131,8 @@ impl Surface<'_> {
     }
 
     /// The pair of the surface point nearest to the mark. Each evaluation takes a unit of the
-    /// budget, of which what is left is written back.
+    /// budget, of which what is left is written back. u or v may be infinite after a shift by a
+    /// period.
     pub fn invert(&self, mark: Point, search: &Search, budget: &mut u64) -> Answer<Pair> {
         let mut pair = [0.; 2];
         let [pu, pv] = &search.periods;
@@ -138,16 +149,44 @@ impl Surface<'_> {
         answer(number, pair)
     }
 
-    /// The pairs of a row of marks, three coordinates each, written to `answers`, two numbers a
-    /// mark. Each pair is the next mark's hint, and one budget serves all. Where a mark is
-    /// refused the pairs before it are written, and all later numbers keep their bits.
+    /// The pairs of a row of marks, written to the front of `answers`. Each pair is the next mark's
+    /// hint, and one budget serves all. Where a mark is refused the pairs before it are written, and
+    /// all later ones keep their bits. A pair may be infinite as in [`Surface::invert`], and is then
+    /// no hint: the next mark is refused with [`Refusal::Argument`].
     pub fn row(
+        &self,
+        marks: &[Point],
+        search: &Search,
+        budget: &mut u64,
+        answers: &mut [Pair],
+    ) -> Result<(), RowRefusal> {
+        let answers = answers.as_flattened_mut();
+        self.row_flat(marks.as_flattened(), search, budget, answers)
+    }
+
+    /// As [`Surface::row`], with the marks' coordinates and the answers' numbers one after another:
+    /// three a mark, and room for two.
+    pub fn row_flat(
         &self,
         marks: &[f64],
         search: &Search,
         budget: &mut u64,
         answers: &mut [f64],
     ) -> Result<(), RowRefusal> {
+        let (number, index) = self.raw_row(marks, search, budget, answers);
+        answer(number, ()).map_err(|refusal| RowRefusal {
+            refusal,
+            mark: self.ended_at(search, refusal, index),
+        })
+    }
+
+    fn raw_row(
+        &self,
+        marks: &[f64],
+        search: &Search,
+        budget: &mut u64,
+        answers: &mut [f64],
+    ) -> (u64, u64) {
         let mut index = 0;
         let [pu, pv] = &search.periods;
         let number = raw::row(
@@ -161,13 +200,23 @@ impl Surface<'_> {
             slice::from_mut(&mut index),
             answers,
         );
-        answer(number, ()).map_err(|refusal| RowRefusal {
-            refusal,
-            index: index as usize,
-        })
+        (number, index)
     }
 
-    /// How u and v move as the surface point at them moves by a vector, for a unit.
+    /// The mark that ended a row. The search is tested before the first mark, and an unsound one is
+    /// refused with the number and index of an unsound first mark: the same row without marks is
+    /// refused only in the one case.
+    fn ended_at(&self, search: &Search, refusal: Refusal, index: u64) -> Option<usize> {
+        let by_a_mark = match refusal {
+            Refusal::Units | Refusal::Evaluation => true,
+            Refusal::Argument => index > 0 || self.raw_row(&[], search, &mut 0, &mut []).0 == 0,
+            _ => false,
+        };
+        by_a_mark.then_some(index as usize)
+    }
+
+    /// How u and v move as the surface point at them moves by a vector, for a unit. They may be
+    /// infinite or NaN.
     pub fn derivative(&self, [u, v]: Pair, vector: Point, budget: &mut u64) -> Answer<Pair> {
         let mut pair = [0.; 2];
         let budget = slice::from_mut(budget);
@@ -218,6 +267,17 @@ pub fn plane(frame: &Frame, mark: Point, budget: &mut u64) -> Answer<Pair> {
     answer(number, pair)
 }
 
+/// The printout of a job file, as the placing program writes it for the same bytes. A malformed
+/// file has one too, `refused 12 at 0`.
+pub fn job(file: &[u8]) -> Vec<u8> {
+    let mut printout = vec![0; raw::PRINTOUT_ROOM];
+    let mut written = 0;
+    let number = raw::job(file, &mut printout, slice::from_mut(&mut written));
+    assert_eq!(number, 0, "there is room for every printout");
+    printout.truncate(written as usize);
+    printout
+}
+
 impl Hint {
     fn numbers(&self) -> &[f64] {
         match self {
@@ -239,6 +299,6 @@ impl Period {
 fn answer<T>(number: u64, value: T) -> Answer<T> {
     match number {
         0 => Ok(value),
-        _ => Err(Refusal::of(number)),
+        _ => Err(Refusal::from_number(number).expect("the library answers no other number")),
     }
 }

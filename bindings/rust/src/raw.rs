@@ -1,12 +1,15 @@
 //! The library's own functions, argument for argument: each answers the number of its refusal
-//! or 0, and writes the rest of its answer to the slices lent for it. Numbers past those that a
-//! function writes keep their bits. A refusal leaves all of them as they were, but for the
+//! or 0, and writes the rest of its answer to the slices lent for it. What lies past what a
+//! function writes keeps its bits. A refusal leaves all of them as they were, but for the
 //! budget, and in a row `index` and the pairs before the refused mark.
 //!
 //! Every argument is tested, so all of them are safe. 99 is answered, before any other check and
 //! with nothing written, where `flags` is above 3, a hint has neither no number nor two, a period
 //! has more than one, or a slice is too short for what is to be written to it. A row whose
 //! answers don't fit is refused with 11 instead.
+
+/// Bytes that are room enough for every job's printout.
+pub const PRINTOUT_ROOM: usize = 69_632;
 
 /// A surface, as it is lent.
 #[derive(Clone, Copy, Debug)]
@@ -165,6 +168,14 @@ unsafe extern "C" {
         pair: *mut f64,
         pair_count: usize,
     ) -> u64;
+    fn placing_job(
+        file: *const u8,
+        file_count: usize,
+        printout: *mut u8,
+        printout_count: usize,
+        written: *mut u64,
+        written_count: usize,
+    ) -> u64;
 }
 
 /// Calls a function on a lent surface, with the other arguments after it.
@@ -198,8 +209,8 @@ pub fn evaluate(s: &Lent, u: f64, v: f64, jet: &mut [f64]) -> u64 {
     on!(placing_evaluate, s, u, v, jet.as_mut_ptr(), jet.len())
 }
 
-/// The pair of the surface point nearest to a mark: two numbers to `pair`. `budget[0]` is the
-/// budget, and afterwards what is left of it.
+/// The pair of the surface point nearest to a mark: two numbers to `pair`, which may be infinite
+/// after a shift by a period. `budget[0]` is the budget, and afterwards what is left of it.
 #[allow(clippy::too_many_arguments)]
 pub fn invert(
     s: &Lent,
@@ -268,7 +279,8 @@ pub fn row(
     )
 }
 
-/// How u and v move as the surface point at (u, v) moves by a vector: two numbers to `pair`.
+/// How u and v move as the surface point at (u, v) moves by a vector: two numbers to `pair`, which
+/// may be infinite or NaN.
 pub fn derivative(
     s: &Lent,
     u: f64,
@@ -310,7 +322,7 @@ pub fn nurbs_singular(s: &Lent, tolerance: f64, collapsed: &mut [u64], edges: &m
 }
 
 /// The coordinates of a mark in a plane's frame (origin, axis of u, axis of v): two numbers to
-/// `pair`.
+/// `pair`, which may be infinite or NaN.
 pub fn plane(frame: [[f64; 3]; 3], mark: [f64; 3], budget: &mut [u64], pair: &mut [f64]) -> u64 {
     let [x, y, z] = mark;
     let [[ox, oy, oz], [ux, uy, uz], [vx, vy, vz]] = frame;
@@ -332,6 +344,22 @@ pub fn plane(frame: [[f64; 3]; 3], mark: [f64; 3], budget: &mut [u64], pair: &mu
             budget.len(),
             pair.as_mut_ptr(),
             pair.len(),
+        )
+    }
+}
+
+/// The printout of a job file, to the front of `printout`; `written[0]` is afterwards how many bytes
+/// it has. 99 is answered where `printout` has less than [`PRINTOUT_ROOM`] or `written` no number. A
+/// malformed file is not refused, but printed as such.
+pub fn job(file: &[u8], printout: &mut [u8], written: &mut [u64]) -> u64 {
+    unsafe {
+        placing_job(
+            file.as_ptr(),
+            file.len(),
+            printout.as_mut_ptr(),
+            printout.len(),
+            written.as_mut_ptr(),
+            written.len(),
         )
     }
 }

@@ -176,3 +176,20 @@ fn longer_slices_keep_their_bits() {
     assert_eq!(collapsed, [0, 0, 0, 0, 9]);
     assert!(kept(&edges));
 }
+
+#[test]
+fn a_printout_has_room() {
+    let (mut printout, mut written) = ([7; raw::PRINTOUT_ROOM + 1], [9, 9]);
+    assert_eq!(
+        raw::job(&[], &mut printout[..raw::PRINTOUT_ROOM - 1], &mut written),
+        99
+    );
+    assert_eq!(raw::job(&[], &mut printout, &mut []), 99);
+    assert!(printout.iter().all(|&byte| byte == 7) && written == [9, 9]);
+    for room in [raw::PRINTOUT_ROOM, raw::PRINTOUT_ROOM + 1] {
+        assert_eq!(raw::job(&[], &mut printout[..room], &mut written), 0);
+        assert_eq!(written, [16, 9]);
+        assert!(printout.starts_with(b"refused 12 at 0\n"));
+        assert!(printout[16..].iter().all(|&byte| byte == 7));
+    }
+}

@@ -1,5 +1,6 @@
 //! Every function, its refusals, and what it leaves of what is lent.
-use placing::{Edge, Frame, Hint, Jet, Period, Refusal, RowRefusal, Search, Surface, plane};
+use placing::{Edge, Frame, Hint, Jet, Period, Refusal, RowRefusal, Search, Surface, job, plane};
+use std::thread;
 
 const KNOTS: [f64; 4] = [0., 0., 1., 1.];
 const NET: [f64; 12] = [0., 0., 0., 0., 1., 0., 1., 0., 0., 1., 1., 0.];
@@ -26,10 +27,13 @@ fn dot() -> Surface<'static> {
 
 fn free(tolerance: f64) -> Search {
     Search {
-        hint: Hint::Nothing,
         tolerance,
-        periods: [Period::Free; 2],
+        ..Search::default()
     }
+}
+
+fn refused(refusal: Refusal, mark: Option<usize>) -> Result<(), RowRefusal> {
+    Err(RowRefusal { refusal, mark })
 }
 
 fn hinted(u: f64, v: f64, tolerance: f64) -> Search {
@@ -109,14 +113,17 @@ fn refuses_surfaces() {
     ];
     for (surface, refusal) in cases {
         let mut budget = 5;
-        let mut pairs = [7.; 2];
+        let mut pairs = [[7.; 2]];
         assert_eq!(surface.evaluate([0.; 2]), Err(refusal));
         assert_eq!(surface.invert(MARK, &free(0.5), &mut budget), Err(refusal));
         assert_eq!(surface.derivative([0.; 2], MARK, &mut budget), Err(refusal));
         assert_eq!(surface.nurbs_singular(0.5), Err(refusal));
-        let ended = surface.row(&MARK, &free(0.5), &mut budget, &mut pairs);
-        assert_eq!(ended, Err(RowRefusal { refusal, index: 0 }));
-        assert_eq!((budget, pairs), (5, [7.; 2]));
+        let marks: [&[_]; 3] = [&[], &[MARK], &[[f64::NAN; 3]]];
+        for marks in marks {
+            let ended = surface.row(marks, &free(0.5), &mut budget, &mut pairs);
+            assert_eq!(ended, refused(refusal, None));
+        }
+        assert_eq!((budget, pairs), (5, [[7.; 2]]));
     }
 }
 
@@ -183,28 +190,107 @@ fn refuses_searches() {
 
 #[test]
 fn places_a_row() {
-    let marks = [MARK, MARK].concat();
+    let marks = [MARK, MARK];
     let mut budget = 1000;
-    let mut pairs = [7.; 5];
+    let mut pairs = [[7.; 2]; 3];
     assert_eq!(
         square().row(&marks, &free(0.5), &mut budget, &mut pairs),
         Ok(())
     );
-    assert_eq!((budget, pairs), (814, [0.25, 0.5, 0.25, 0.5, 7.]));
+    assert_eq!((budget, pairs), (814, [[0.25, 0.5], [0.25, 0.5], [7.; 2]]));
 
     let mut budget = 100;
-    let mut pairs = [7.; 4];
+    let mut pairs = [[7.; 2]; 2];
     let ended = square().row(&marks, &free(0.5), &mut budget, &mut pairs);
-    let refused = |refusal, index| Err(RowRefusal { refusal, index });
-    assert_eq!(ended, refused(Refusal::Units, 1));
-    assert_eq!((budget, pairs), (0, [0.25, 0.5, 7., 7.]));
+    assert_eq!(ended, refused(Refusal::Units, Some(1)));
+    assert_eq!((budget, pairs), (0, [[0.25, 0.5], [7.; 2]]));
 
-    let ended = square().row(&marks, &free(0.5), &mut budget, &mut pairs[..3]);
-    assert_eq!(ended, refused(Refusal::Row, 0));
-    let ended = square().row(&marks[..5], &free(0.5), &mut budget, &mut pairs);
-    assert_eq!(ended, refused(Refusal::Row, 0));
+    let ended = square().row(&marks, &free(0.5), &mut budget, &mut pairs[..1]);
+    assert_eq!(ended, refused(Refusal::Row, None));
     assert_eq!(square().row(&[], &free(0.5), &mut budget, &mut []), Ok(()));
     assert_eq!(budget, 0);
+}
+
+#[test]
+fn places_a_flat_row() {
+    let marks = [MARK, MARK].concat();
+    let mut budget = 1000;
+    let mut numbers = [7.; 5];
+    let ended = square().row_flat(&marks, &free(0.5), &mut budget, &mut numbers);
+    assert_eq!(ended, Ok(()));
+    assert_eq!((budget, numbers), (814, [0.25, 0.5, 0.25, 0.5, 7.]));
+    let ended = square().row_flat(&marks[..5], &free(0.5), &mut budget, &mut numbers);
+    assert_eq!(ended, refused(Refusal::Row, None));
+    let ended = square().row_flat(&marks, &free(0.5), &mut budget, &mut numbers[..3]);
+    assert_eq!(ended, refused(Refusal::Row, None));
+}
+
+#[test]
+fn blames_a_mark_only_for_its_own_fault() {
+    let lost = [0., f64::NAN, 0.];
+    let every = |period| Search {
+        periods: [Period::Every(period), Period::Free],
+        ..Search::default()
+    };
+    let unsound = [
+        free(-1.),
+        free(f64::NAN),
+        hinted(f64::INFINITY, 0., 0.),
+        every(0.),
+        every(f64::INFINITY),
+    ];
+    let ended = |marks: &[_], search| {
+        let mut budget = 1000;
+        square().row(marks, search, &mut budget, &mut [[0.; 2]; 2])
+    };
+    // The search is tested first: its fault is no mark's, whatever the marks are.
+    for search in &unsound {
+        let rows: [&[_]; 3] = [&[], &[MARK], &[lost, MARK]];
+        for marks in rows {
+            assert_eq!(ended(marks, search), refused(Refusal::Argument, None));
+        }
+    }
+    let search = &free(0.5);
+    assert_eq!(
+        ended(&[lost, MARK], search),
+        refused(Refusal::Argument, Some(0))
+    );
+    assert_eq!(
+        ended(&[MARK, lost], search),
+        refused(Refusal::Argument, Some(1))
+    );
+    assert_eq!(
+        square().row(&[MARK], search, &mut 0, &mut [[0.; 2]]),
+        refused(Refusal::Units, Some(0))
+    );
+}
+
+#[test]
+fn a_pair_may_be_infinite_and_is_then_no_hint() {
+    let search = Search {
+        periods: [Period::Every(1e-300), Period::Free],
+        ..hinted(1e300, 0.5, 1.)
+    };
+    let far = [f64::INFINITY, 0.5];
+    assert_eq!(square().invert(MARK, &search, &mut 1000), Ok(far));
+    let mut pairs = [[7.; 2]; 2];
+    let ended = square().row(&[MARK, MARK], &search, &mut 1000, &mut pairs);
+    assert_eq!(ended, refused(Refusal::Argument, Some(1)));
+    assert_eq!(pairs, [far, [7.; 2]]);
+}
+
+#[test]
+fn threads_share_nothing() {
+    let alone = square().invert(MARK, &free(0.5), &mut 1000);
+    thread::scope(|scope| {
+        for _ in 0..8 {
+            scope.spawn(|| {
+                for _ in 0..100 {
+                    assert_eq!(square().invert(MARK, &free(0.5), &mut 1000), alone);
+                }
+            });
+        }
+    });
 }
 
 #[test]
@@ -233,6 +319,15 @@ fn derives() {
         square().derivative([0.; 2], vector, &mut budget),
         Err(Refusal::Argument)
     );
+    // Along u the square is 2 long, and the vector's product with that overflows.
+    let long = Surface {
+        controls: &NET.map(|x| 2. * x),
+        ..square()
+    };
+    let [u, v] = long
+        .derivative([0.; 2], [f64::MAX, 0., 0.], &mut 1)
+        .unwrap();
+    assert!(u == f64::INFINITY && v.is_nan());
 }
 
 #[test]
@@ -246,7 +341,7 @@ fn tells_collapsed_edges() {
     ];
     assert_eq!(square().nurbs_singular(0.5), Ok(all));
     assert_eq!(
-        square().nurbs_singular(0.5_f64.next_down()),
+        square().nurbs_singular(f64::from_bits(0.5_f64.to_bits() - 1)),
         Ok([Edge::Open; 4])
     );
     assert_eq!(square().nurbs_singular(-1.), Err(Refusal::Argument));
@@ -289,18 +384,39 @@ fn locates_in_a_plane() {
 }
 
 #[test]
+fn prints_a_job() {
+    let mut file = b"SF\x01\x01\x02\x00\x02\x00\x00".to_vec();
+    for number in [&KNOTS[..], &KNOTS, &NET, &[1.; 4]].concat() {
+        file.extend(number.to_le_bytes());
+    }
+    file.extend(b"TL");
+    file.extend(0.5_f64.to_le_bytes());
+    file.extend(1000_u64.to_le_bytes());
+    for _ in 0..2 {
+        file.extend(b"MK");
+        file.extend(MARK.map(f64::to_le_bytes).as_flattened());
+    }
+    let printout = "marks 2\n\
+                    3fd0000000000000 3fe0000000000000 908\n\
+                    3fd0000000000000 3fe0000000000000 814\n";
+    assert_eq!(job(&file), printout.as_bytes());
+    for malformed in [&[], &file[..file.len() - 1], &[0; 32_769]] {
+        assert_eq!(job(malformed), b"refused 12 at 0\n");
+    }
+}
+
+#[test]
 fn refusals_have_words() {
-    let error: &dyn std::error::Error = &RowRefusal {
+    let error = |mark| RowRefusal {
         refusal: Refusal::Units,
-        index: 3,
+        mark,
     };
-    assert_eq!(
-        error.to_string(),
-        "mark 3: no unit of the budget was left for an evaluation"
-    );
-    assert_eq!(
-        error.source().unwrap().to_string(),
-        Refusal::Units.to_string()
-    );
+    let words = "no unit of the budget was left for an evaluation";
+    assert_eq!(error(None).to_string(), words);
+    assert_eq!(error(Some(3)).to_string(), format!("mark 3: {words}"));
+    let error: &dyn std::error::Error = &error(None);
+    assert_eq!(error.source().unwrap().to_string(), words);
     assert_eq!((Refusal::Row.number(), Refusal::Misfit.number()), (11, 99));
+    assert_eq!(Refusal::from_number(8), Some(Refusal::Units));
+    assert_eq!(Refusal::from_number(13), None);
 }
