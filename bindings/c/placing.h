@@ -1,15 +1,18 @@
 /* Marks placed on a NURBS surface.
  *
  * Every function answers 0 or the number of a refusal and writes the rest of its answer to what is
- * lent for it. Each tests every argument, for all input. A pointer goes with a count, of numbers:
- * it must be good for so many, and what is written to must overlap nothing else that is lent. Where
- * a count is 0 the pointer is not read; give PLACING_NONE, and not NULL.
+ * lent for it. Each tests every argument, for all input. A pointer goes with a count, of numbers or
+ * of bytes: it must be good for so many, and what is written to must overlap nothing else that is
+ * lent. Where a count is 0 the pointer is not read and may be anything, NULL too, as the data() of
+ * an empty std::vector.
  *
- * Numbers past those that a function writes keep their bits. A refusal leaves all of them as they
- * were, but for the budget, which is what is left of it, and in a row the index and the pairs of the
- * marks before the refused one.
+ * What lies past what a function writes keeps its bits. A refusal leaves all as it was, but for the
+ * budget, which is what is left of it, and in a row the index and the pairs of the marks before the
+ * refused one.
  *
- * Link with -lm. */
+ * Nothing is shared between calls: any number of threads may call at once, on one surface too. A
+ * call takes at most STACK_CALL of stack, and placing_job STACK_JOB; nothing is allocated. The
+ * library needs memcpy and memset of the C library, and nothing else. */
 #ifndef PLACING_H
 #define PLACING_H
 
@@ -21,22 +24,59 @@ extern "C" {
 #endif
 
 enum placing_refusal {
-    PLACING_COUNTS = 1,      /* over 100,000 controls or 100,034 knots, or a count out of range */
-    PLACING_CONTROLS = 2,    /* the counts of controls or weights don't fit those of the shape */
-    PLACING_COORDINATE = 3,  /* a control's coordinate is not finite */
-    PLACING_WEIGHTS = 4,     /* no weights, or one not finite, not above 0, or 0 after division by the largest */
-    PLACING_DEGREE = 5,      /* a degree is 0 or above 16 */
-    PLACING_KNOTS = 6,       /* the knots of an axis are not right */
-    PLACING_ARGUMENT = 7,    /* a mark, vector, frame, hint, tolerance or period is not finite; or the
-                                tolerance is below 0, or a period not above 0 */
-    PLACING_UNITS = 8,       /* no unit of the budget was left for an evaluation */
-    PLACING_EVALUATION = 9,  /* an evaluation refused: outside, not finite, weight sum not above 0 */
-    PLACING_SINGULAR = 10,   /* the two derivatives there don't span a plane */
-    PLACING_ROW = 11,        /* marks not in threes, or less room than two numbers a mark */
-    PLACING_MISFIT = 99      /* flags above 3, a hint of neither 0 nor 2 numbers, a period of more
-                                than 1, or less room than a function writes: before any other
-                                check, and nothing is written */
+    PLACING_COUNTS = 1,
+    PLACING_CONTROLS = 2,
+    PLACING_COORDINATE = 3,
+    PLACING_WEIGHTS = 4,
+    PLACING_DEGREE = 5,
+    PLACING_KNOTS = 6,
+    PLACING_ARGUMENT = 7,
+    PLACING_UNITS = 8,
+    PLACING_EVALUATION = 9,
+    PLACING_SINGULAR = 10,
+    PLACING_ROW = 11,
+    PLACING_MALFORMED = 12, /* in a printout only */
+    PLACING_MISFIT = 99     /* before any other check, with nothing written */
 };
+
+/* A refusal in words. */
+static inline const char *placing_refusal_text(uint64_t number) {
+    switch (number) {
+    case PLACING_COUNTS:
+        return "there are more than 100,000 controls or 100,034 knots, or a count is out of range";
+    case PLACING_CONTROLS:
+        return "the counts of controls or weights are not the product of the shape's two counts";
+    case PLACING_COORDINATE:
+        return "a control's coordinate is not finite";
+    case PLACING_WEIGHTS:
+        return "there are no weights, or one is not finite, not above 0, or 0 after division by "
+               "the largest";
+    case PLACING_DEGREE:
+        return "a degree is 0 or above 16";
+    case PLACING_KNOTS:
+        return "the knots of an axis are not right: their count, their order, more than degree + 1 "
+               "equal ones, a domain without width, or a number that is not finite";
+    case PLACING_ARGUMENT:
+        return "the mark, vector, frame, hint, tolerance or a period is not finite, the tolerance "
+               "is below 0, or a period is not above 0";
+    case PLACING_UNITS:
+        return "no unit of the budget was left for an evaluation";
+    case PLACING_EVALUATION:
+        return "an evaluation refused: the parameter lies outside, a number is not finite, or the "
+               "weight sum is not above 0";
+    case PLACING_SINGULAR:
+        return "the two derivatives of the surface there don't span a plane";
+    case PLACING_ROW:
+        return "the marks are not in threes, or the answers have less room than two numbers a mark";
+    case PLACING_MALFORMED:
+        return "the job file is malformed";
+    case PLACING_MISFIT:
+        return "flags are above 3, a hint or period has another count of numbers, or there is less "
+               "room than the answer needs";
+    default:
+        return "no refusal has this number";
+    }
+}
 
 /* A surface, whose arguments PLACING_SURFACE(&surface) lays out. */
 typedef struct placing_surface {
@@ -62,9 +102,7 @@ enum { PLACING_PERIODIC_U = 1, PLACING_PERIODIC_V = 2 };
 
 /* An array and its count; and no numbers at all, for a hint or a period that there is not. */
 #define PLACING_ARRAY(a) (a), sizeof(a) / sizeof *(a)
-#define PLACING_NONE &placing_nothing, 0
-
-static const double placing_nothing = 0.0;
+#define PLACING_NONE NULL, 0
 
 #define PLACING_SURFACE_ARGUMENTS                                                                  \
     size_t degree_u, size_t degree_v, size_t controls_u, size_t controls_v, uint64_t flags,        \
@@ -76,7 +114,9 @@ uint64_t placing_evaluate(PLACING_SURFACE_ARGUMENTS, double u, double v, double 
                           size_t jet_count);
 
 /* u and v of the surface point nearest to the mark: two numbers. The hint is none or two numbers,
- * a period none or one. budget[0] is the budget of evaluations, and afterwards what is left. */
+ * a period none or one: it moves the answer to the hint's turn, and u or v is then infinite where
+ * the hint lies too many periods away. budget[0] is the budget of evaluations, and afterwards what
+ * is left. */
 uint64_t placing_invert(PLACING_SURFACE_ARGUMENTS, double x, double y, double z, const double *hint,
                         size_t hint_count, double tolerance, const double *period_u,
                         size_t period_u_count, const double *period_v, size_t period_v_count,
@@ -84,7 +124,9 @@ uint64_t placing_invert(PLACING_SURFACE_ARGUMENTS, double x, double y, double z,
 
 /* A row of marks, three coordinates each: two numbers a mark. Each pair is the next mark's hint,
  * and one budget serves all. index[0] is afterwards the index of the mark that was refused, and 0
- * where none was. */
+ * where none was. Refusals 1 to 6 and 11 are no mark's fault, and neither is a 7 that a row without
+ * marks is refused with too: the hint, the tolerance and the periods are tested before the first
+ * mark. A pair may be infinite as above, and is then no hint: the next mark is refused with 7. */
 uint64_t placing_row(PLACING_SURFACE_ARGUMENTS, const double *marks, size_t marks_count,
                      const double *hint, size_t hint_count, double tolerance,
                      const double *period_u, size_t period_u_count, const double *period_v,
@@ -109,6 +151,14 @@ uint64_t placing_nurbs_singular(PLACING_SURFACE_ARGUMENTS, double tolerance, uin
 uint64_t placing_plane(double ox, double oy, double oz, double ux, double uy, double uz, double vx,
                        double vy, double vz, double x, double y, double z, uint64_t *budget,
                        size_t budget_count, double *pair, size_t pair_count);
+
+/* The printout of a job file's bytes, as the placing program writes it: to the front of printout,
+ * which has room for every printout, and written[0] is how many bytes it has. A malformed file is no
+ * refusal of the call, but prints "refused 12 at 0". */
+uint64_t placing_job(const uint8_t *file, size_t file_count, uint8_t *printout,
+                     size_t printout_count, uint64_t *written, size_t written_count);
+
+#define PLACING_PRINTOUT_ROOM 69632
 
 #ifdef __cplusplus
 }

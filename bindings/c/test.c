@@ -1,5 +1,8 @@
-/* Every function of the library from C: answers, refusals, and what is left of longer arrays. */
+/* Every function of the library from C: answers, refusals, what is left of longer arrays, and no
+ * array at all for every one that is lent. */
 #include "placing.h"
+#include <float.h>
+#include <math.h>
 #include <stdio.h>
 #include <string.h>
 
@@ -101,6 +104,22 @@ static void invert(void) {
     EXPECT(SAME(pair, 0.25, -2.5, 7) && budget[0] == 5);
 }
 
+/* A shift by more periods than a double can count. */
+static void shift(void) {
+    const double marks[] = {0.25, 0.5, 0.75, 0.25, 0.5, 0.75};
+    const double hint[] = {1e300, 0.5}, period[] = {1e-300};
+    uint64_t budget[1] = {1000}, index[1];
+    double pair[2], answers[4] = {[2] = 7};
+    EXPECT(!placing_invert(PLACING_SURFACE(&square), 0.25, 0.5, 0.75, PLACING_ARRAY(hint), 1,
+                           PLACING_ARRAY(period), PLACING_NONE, PLACING_ARRAY(budget),
+                           PLACING_ARRAY(pair)));
+    EXPECT(isinf(pair[0]) && pair[1] == 0.5);
+    EXPECT(placing_row(PLACING_SURFACE(&square), PLACING_ARRAY(marks), PLACING_ARRAY(hint), 1,
+                       PLACING_ARRAY(period), PLACING_NONE, PLACING_ARRAY(budget),
+                       PLACING_ARRAY(index), PLACING_ARRAY(answers)) == PLACING_ARGUMENT);
+    EXPECT(index[0] == 1 && isinf(answers[0]) && answers[2] == 7);
+}
+
 static void row(void) {
     const double marks[] = {0.25, 0.5, 0.75, 0.25, 0.5, 0.75};
     uint64_t budget[1] = {1000}, index[2] = {9, 9};
@@ -152,6 +171,14 @@ static void derivative(void) {
     EXPECT(placing_derivative(PLACING_SURFACE(&dot), 0.25, 0.5, 3, 5, 7, PLACING_ARRAY(budget), pair,
                               1) == PLACING_MISFIT);
     EXPECT(SAME(pair, 3, 5, 7) && budget[0] == 0);
+    /* Along u this square is 2 long, and the vector's product with that overflows. */
+    const double wide[12] = {[4] = 2, [6] = 2, [9] = 2, [10] = 2};
+    placing_surface large = square;
+    large.controls = wide;
+    budget[0] = 1;
+    EXPECT(!placing_derivative(PLACING_SURFACE(&large), 0, 0, DBL_MAX, 0, 0, PLACING_ARRAY(budget),
+                               PLACING_ARRAY(pair)));
+    EXPECT(isinf(pair[0]) && isnan(pair[1]));
 }
 
 static void singular(void) {
@@ -187,14 +214,126 @@ static void plane(void) {
            PLACING_MISFIT);
 }
 
+static size_t put(uint8_t *file, size_t at, const void *bytes, size_t count) {
+    memcpy(file + at, bytes, count);
+    return at + count;
+}
+
+static void job(void) {
+    static uint8_t file[1000], printout[PLACING_PRINTOUT_ROOM + 1];
+    const double tolerance = 0.5, mark[] = {0.25, 0.5, 0.75};
+    const uint64_t budget = 1000;
+    uint64_t written[2] = {9, 9};
+    size_t count = put(file, 0, "SF\1\1\2\0\2\0\0", 9);
+    count = put(file, count, knots, sizeof knots);
+    count = put(file, count, knots, sizeof knots);
+    count = put(file, count, net, sizeof net);
+    count = put(file, count, weights, sizeof weights);
+    count = put(file, count, "TL", 2);
+    count = put(file, count, &tolerance, 8);
+    count = put(file, count, &budget, 8);
+    for (int i = 0; i < 2; i++) {
+        count = put(file, count, "MK", 2);
+        count = put(file, count, mark, sizeof mark);
+    }
+    const char expected[] = "marks 2\n3fd0000000000000 3fe0000000000000 908\n"
+                            "3fd0000000000000 3fe0000000000000 814\n\7";
+    memset(printout, 7, sizeof printout);
+    EXPECT(placing_job(file, count, printout, PLACING_PRINTOUT_ROOM - 1, PLACING_ARRAY(written)) ==
+           PLACING_MISFIT);
+    EXPECT(printout[0] == 7 && written[0] == 9);
+    EXPECT(!placing_job(file, count, PLACING_ARRAY(printout), PLACING_ARRAY(written)));
+    EXPECT(written[0] == sizeof expected - 2 && written[1] == 9);
+    EXPECT(!memcmp(printout, expected, sizeof expected - 1));
+    EXPECT(!placing_job(file, count - 1, printout, PLACING_PRINTOUT_ROOM, PLACING_ARRAY(written)));
+    EXPECT(written[0] == 16 && !memcmp(printout, "refused 12 at 0\n", 16));
+}
+
+/* Each array in turn is no array at all: the function answers as for any other count of 0. */
+static void nothing(void) {
+    const double mark[] = {0.25, 0.5, 0.75};
+    uint64_t budget[1] = {1000}, index[1] = {9}, collapsed[4];
+    double out[20];
+    placing_surface s[4] = {square, square, square, square};
+    s[0].knots_u = NULL, s[0].knots_u_count = 0;
+    s[1].knots_v = NULL, s[1].knots_v_count = 0;
+    s[2].controls = NULL, s[2].controls_count = 0;
+    s[3].weights = NULL, s[3].weights_count = 0;
+    const uint64_t refused[] = {PLACING_KNOTS, PLACING_KNOTS, PLACING_CONTROLS, PLACING_CONTROLS};
+    for (int i = 0; i < 4; i++) {
+        EXPECT(placing_evaluate(PLACING_SURFACE(&s[i]), 0, 0, PLACING_ARRAY(out)) == refused[i]);
+        EXPECT(placing_invert(PLACING_SURFACE(&s[i]), 0, 0, 0, NULL, 0, 0, NULL, 0, NULL, 0,
+                              PLACING_ARRAY(budget), PLACING_ARRAY(out)) == refused[i]);
+        EXPECT(placing_row(PLACING_SURFACE(&s[i]), NULL, 0, NULL, 0, 0, NULL, 0, NULL, 0,
+                           PLACING_ARRAY(budget), PLACING_ARRAY(index), NULL, 0) == refused[i]);
+        EXPECT(placing_derivative(PLACING_SURFACE(&s[i]), 0, 0, 0, 0, 0, PLACING_ARRAY(budget),
+                                  PLACING_ARRAY(out)) == refused[i]);
+        EXPECT(placing_nurbs_singular(PLACING_SURFACE(&s[i]), 0, PLACING_ARRAY(collapsed),
+                                      PLACING_ARRAY(out)) == refused[i]);
+    }
+    const placing_surface none = {0};
+    EXPECT(placing_evaluate(PLACING_SURFACE(&none), 0, 0, PLACING_ARRAY(out)) == PLACING_WEIGHTS);
+
+    EXPECT(placing_evaluate(PLACING_SURFACE(&square), 0, 0, NULL, 0) == PLACING_MISFIT);
+    EXPECT(!placing_invert(PLACING_SURFACE(&square), 0.25, 0.5, 0.75, NULL, 0, 0.5, NULL, 0, NULL, 0,
+                           PLACING_ARRAY(budget), PLACING_ARRAY(out)));
+    EXPECT(SAME(out, 0.25, 0.5));
+    EXPECT(placing_invert(PLACING_SURFACE(&square), 0, 0, 0, NULL, 0, 0, NULL, 0, NULL, 0, NULL, 0,
+                          PLACING_ARRAY(out)) == PLACING_MISFIT);
+    EXPECT(placing_invert(PLACING_SURFACE(&square), 0, 0, 0, NULL, 0, 0, NULL, 0, NULL, 0,
+                          PLACING_ARRAY(budget), NULL, 0) == PLACING_MISFIT);
+
+    EXPECT(!placing_row(PLACING_SURFACE(&square), NULL, 0, NULL, 0, 0.5, NULL, 0, NULL, 0,
+                        PLACING_ARRAY(budget), PLACING_ARRAY(index), NULL, 0));
+    EXPECT(index[0] == 0);
+    EXPECT(!placing_row(PLACING_SURFACE(&square), PLACING_ARRAY(mark), NULL, 0, 0.5, NULL, 0, NULL,
+                        0, PLACING_ARRAY(budget), PLACING_ARRAY(index), PLACING_ARRAY(out)));
+    EXPECT(SAME(out, 0.25, 0.5));
+    EXPECT(placing_row(PLACING_SURFACE(&square), PLACING_ARRAY(mark), NULL, 0, 0.5, NULL, 0, NULL, 0,
+                       PLACING_ARRAY(budget), PLACING_ARRAY(index), NULL, 0) == PLACING_ROW);
+    EXPECT(placing_row(PLACING_SURFACE(&square), NULL, 0, NULL, 0, 0.5, NULL, 0, NULL, 0, NULL, 0,
+                       PLACING_ARRAY(index), NULL, 0) == PLACING_MISFIT);
+    EXPECT(placing_row(PLACING_SURFACE(&square), NULL, 0, NULL, 0, 0.5, NULL, 0, NULL, 0,
+                       PLACING_ARRAY(budget), NULL, 0, NULL, 0) == PLACING_MISFIT);
+
+    EXPECT(placing_derivative(PLACING_SURFACE(&square), 0, 0, 1, 0, 0, NULL, 0,
+                              PLACING_ARRAY(out)) == PLACING_MISFIT);
+    EXPECT(placing_derivative(PLACING_SURFACE(&square), 0, 0, 1, 0, 0, PLACING_ARRAY(budget), NULL,
+                              0) == PLACING_MISFIT);
+    EXPECT(placing_nurbs_singular(PLACING_SURFACE(&square), 0, NULL, 0, PLACING_ARRAY(out)) ==
+           PLACING_MISFIT);
+    EXPECT(placing_nurbs_singular(PLACING_SURFACE(&square), 0, PLACING_ARRAY(collapsed), NULL, 0) ==
+           PLACING_MISFIT);
+    EXPECT(placing_plane(0, 0, 0, 1, 0, 0, 0, 1, 0, 0, 0, 0, NULL, 0, PLACING_ARRAY(out)) ==
+           PLACING_MISFIT);
+    EXPECT(placing_plane(0, 0, 0, 1, 0, 0, 0, 1, 0, 0, 0, 0, PLACING_ARRAY(budget), NULL, 0) ==
+           PLACING_MISFIT);
+
+    static uint8_t printout[PLACING_PRINTOUT_ROOM];
+    uint64_t written[1];
+    EXPECT(placing_job(NULL, 0, NULL, 0, PLACING_ARRAY(written)) == PLACING_MISFIT);
+    EXPECT(placing_job(NULL, 0, PLACING_ARRAY(printout), NULL, 0) == PLACING_MISFIT);
+    EXPECT(!placing_job(NULL, 0, PLACING_ARRAY(printout), PLACING_ARRAY(written)));
+    EXPECT(written[0] == 16 && !memcmp(printout, "refused 12 at 0\n", 16));
+}
+
+static void words(void) {
+    EXPECT(!strcmp(placing_refusal_text(PLACING_DEGREE), "a degree is 0 or above 16"));
+    EXPECT(!strcmp(placing_refusal_text(13), "no refusal has this number"));
+}
+
 int main(void) {
     evaluate();
     surfaces();
     invert();
+    shift();
     row();
     derivative();
     singular();
     plane();
+    job();
+    nothing();
+    words();
     if (failures == 0)
         puts("all as it should be");
     return failures != 0;

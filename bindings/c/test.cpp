@@ -1,0 +1,76 @@
+// The library from C++: vectors are lent by their data(), which is null for an empty one.
+#include "placing.h"
+#include <cstdio>
+#include <string>
+#include <vector>
+
+static int failures;
+#define EXPECT(fact)                                                                               \
+    do {                                                                                           \
+        if (!(fact)) {                                                                             \
+            std::printf("line %d: not so: %s\n", __LINE__, #fact);                                 \
+            failures++;                                                                            \
+        }                                                                                          \
+    } while (0)
+
+typedef std::vector<double> Numbers;
+typedef std::vector<uint64_t> Counts;
+
+// The point at (u, v) is (u, v, 0).
+struct Square {
+    Numbers knots{0, 0, 1, 1};
+    Numbers net{0, 0, 0, 0, 1, 0, 1, 0, 0, 1, 1, 0};
+    Numbers weights{1, 1, 1, 1};
+
+    placing_surface lent() const {
+        return {1,           1,          2,          2,              0,
+                knots.data(), knots.size(), knots.data(), knots.size(), net.data(),
+                net.size(),  weights.data(), weights.size()};
+    }
+};
+
+static uint64_t row(const Square &square, const Numbers &marks, const Numbers &hint,
+                    const Numbers &period, Counts &budget, Counts &index, Numbers &answers) {
+    const placing_surface lent = square.lent();
+    return placing_row(PLACING_SURFACE(&lent), marks.data(), marks.size(), hint.data(), hint.size(),
+                       0.5, period.data(), period.size(), PLACING_NONE, budget.data(),
+                       budget.size(), index.data(), index.size(), answers.data(), answers.size());
+}
+
+int main() {
+    const Numbers none;
+    const Numbers marks{0.25, 0.5, 0.75, 0.25, 0.5, 0.75};
+    Counts budget{1000}, index{9}, no_counts;
+    Numbers answers(5, 7), no_answers;
+    EXPECT(none.data() == nullptr);
+
+    EXPECT(row(Square(), marks, none, none, budget, index, answers) == 0);
+    EXPECT(answers == (Numbers{0.25, 0.5, 0.25, 0.5, 7}));
+    EXPECT(budget[0] == 814 && index[0] == 0);
+    EXPECT(row(Square(), marks, Numbers{5.25, 0.5}, Numbers{1}, budget, index, answers) == 0);
+    EXPECT(answers == (Numbers{5.25, 0.5, 5.25, 0.5, 7}));
+
+    EXPECT(row(Square(), none, none, none, budget, index, no_answers) == 0);
+    EXPECT(row(Square(), marks, none, none, budget, index, no_answers) == PLACING_ROW);
+    EXPECT(row(Square(), none, none, none, no_counts, index, no_answers) == PLACING_MISFIT);
+    EXPECT(row(Square(), none, none, none, budget, no_counts, no_answers) == PLACING_MISFIT);
+
+    Square knotless, netless, weightless;
+    knotless.knots = netless.net = weightless.weights = none;
+    EXPECT(row(knotless, none, none, none, budget, index, no_answers) == PLACING_KNOTS);
+    EXPECT(row(netless, none, none, none, budget, index, no_answers) == PLACING_CONTROLS);
+    EXPECT(row(weightless, none, none, none, budget, index, no_answers) == PLACING_CONTROLS);
+
+    const std::vector<uint8_t> file;
+    std::vector<uint8_t> printout(PLACING_PRINTOUT_ROOM);
+    Counts written(1);
+    EXPECT(placing_job(file.data(), file.size(), printout.data(), printout.size(), written.data(),
+                       written.size()) == 0);
+    printout.resize(written[0]);
+    EXPECT(std::string(printout.begin(), printout.end()) == "refused 12 at 0\n");
+    EXPECT(placing_refusal_text(PLACING_MALFORMED) == std::string("the job file is malformed"));
+
+    if (failures == 0)
+        std::puts("and from C++");
+    return failures != 0;
+}
