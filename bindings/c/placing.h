@@ -11,7 +11,7 @@
  * refused one.
  *
  * Nothing is shared between calls: any number of threads may call at once, on one surface too. A
- * call takes at most STACK_CALL of stack, and placing_job STACK_JOB; nothing is allocated. The
+ * call takes at most 128 KiB of stack, and placing_job 256 KiB; nothing is allocated. The
  * library needs memcpy and memset of the C library, and nothing else. */
 #ifndef PLACING_H
 #define PLACING_H
@@ -153,8 +153,8 @@ uint64_t placing_plane(double ox, double oy, double oz, double ux, double uy, do
                        size_t budget_count, double *pair, size_t pair_count);
 
 /* The printout of a job file's bytes, as the placing program writes it: to the front of printout,
- * which has room for every printout, and written[0] is how many bytes it has. A malformed file is no
- * refusal of the call, but prints "refused 12 at 0". */
+ * which has room for every printout, and written[0] is how many bytes it has. A malformed file is
+ * no refusal of the call, but prints "refused 12 at 0". */
 uint64_t placing_job(const uint8_t *file, size_t file_count, uint8_t *printout,
                      size_t printout_count, uint64_t *written, size_t written_count);
 

@@ -29,7 +29,8 @@ static void evaluate(void) {
     placing_surface s = square;
     s.flags = PLACING_PERIODIC_U;
     EXPECT(!placing_evaluate(PLACING_SURFACE(&s), 1.25, 0.5, PLACING_ARRAY(jet)));
-    EXPECT(placing_evaluate(PLACING_SURFACE(&s), 0.25, 1.5, PLACING_ARRAY(jet)) == PLACING_EVALUATION);
+    EXPECT(placing_evaluate(PLACING_SURFACE(&s), 0.25, 1.5, PLACING_ARRAY(jet)) ==
+           PLACING_EVALUATION);
     s.flags = PLACING_PERIODIC_V;
     EXPECT(!placing_evaluate(PLACING_SURFACE(&s), 0.25, 1.5, PLACING_ARRAY(jet)));
     EXPECT(SAME(jet, 0.25, 0.5, 0, 1, 0, 0, 0, 1, 0, 7));
@@ -77,8 +78,9 @@ static void invert(void) {
     EXPECT(!placing_invert(PLACING_SURFACE(&square), 0.25, 0.5, 0.75, PLACING_NONE, 0.5,
                            PLACING_NONE, PLACING_NONE, PLACING_ARRAY(budget), PLACING_ARRAY(pair)));
     EXPECT(SAME(pair, 0.25, 0.5, 7) && budget[0] == 0 && budget[1] == 5);
-    EXPECT(placing_invert(PLACING_SURFACE(&square), 0.25, 0.5, 0.75, PLACING_NONE, 0.5, PLACING_NONE,
-                          PLACING_NONE, PLACING_ARRAY(budget), PLACING_ARRAY(pair)) == PLACING_UNITS);
+    EXPECT(placing_invert(PLACING_SURFACE(&square), 0.25, 0.5, 0.75, PLACING_NONE, 0.5,
+                          PLACING_NONE, PLACING_NONE, PLACING_ARRAY(budget),
+                          PLACING_ARRAY(pair)) == PLACING_UNITS);
     budget[0] = 1000;
     EXPECT(!placing_invert(PLACING_SURFACE(&square), 0.25, 0.5, 0.75, hint, 2, 0.75, period, 1,
                            PLACING_NONE, PLACING_ARRAY(budget), PLACING_ARRAY(pair)));
@@ -88,13 +90,15 @@ static void invert(void) {
     EXPECT(SAME(pair, 0.25, -2.5, 7));
     budget[0] = 5;
     EXPECT(placing_invert(PLACING_SURFACE(&square), 0, 0, 0, PLACING_NONE, -1, PLACING_NONE,
-                          PLACING_NONE, PLACING_ARRAY(budget), PLACING_ARRAY(pair)) == PLACING_ARGUMENT);
+                          PLACING_NONE, PLACING_ARRAY(budget),
+                          PLACING_ARRAY(pair)) == PLACING_ARGUMENT);
     EXPECT(placing_invert(PLACING_SURFACE(&square), 0, 0, 0, hint, 1, 0, PLACING_NONE, PLACING_NONE,
                           PLACING_ARRAY(budget), PLACING_ARRAY(pair)) == PLACING_MISFIT);
     EXPECT(placing_invert(PLACING_SURFACE(&square), 0, 0, 0, hint, 3, 0, PLACING_NONE, PLACING_NONE,
                           PLACING_ARRAY(budget), PLACING_ARRAY(pair)) == PLACING_MISFIT);
     EXPECT(placing_invert(PLACING_SURFACE(&square), 0, 0, 0, PLACING_NONE, 0, period, 2,
-                          PLACING_NONE, PLACING_ARRAY(budget), PLACING_ARRAY(pair)) == PLACING_MISFIT);
+                          PLACING_NONE, PLACING_ARRAY(budget),
+                          PLACING_ARRAY(pair)) == PLACING_MISFIT);
     EXPECT(placing_invert(PLACING_SURFACE(&square), 0, 0, 0, PLACING_NONE, 0, PLACING_NONE, period,
                           2, PLACING_ARRAY(budget), PLACING_ARRAY(pair)) == PLACING_MISFIT);
     EXPECT(placing_invert(PLACING_SURFACE(&square), 0, 0, 0, PLACING_NONE, 0, PLACING_NONE,
@@ -168,8 +172,8 @@ static void derivative(void) {
                               PLACING_ARRAY(pair)) == PLACING_SINGULAR);
     EXPECT(placing_derivative(PLACING_SURFACE(&dot), 0.25, 0.5, 3, 5, 7, PLACING_ARRAY(budget),
                               PLACING_ARRAY(pair)) == PLACING_UNITS);
-    EXPECT(placing_derivative(PLACING_SURFACE(&dot), 0.25, 0.5, 3, 5, 7, PLACING_ARRAY(budget), pair,
-                              1) == PLACING_MISFIT);
+    EXPECT(placing_derivative(PLACING_SURFACE(&dot), 0.25, 0.5, 3, 5, 7, PLACING_ARRAY(budget),
+                              pair, 1) == PLACING_MISFIT);
     EXPECT(SAME(pair, 3, 5, 7) && budget[0] == 0);
     /* Along u this square is 2 long, and the vector's product with that overflows. */
     const double wide[12] = {[4] = 2, [6] = 2, [9] = 2, [10] = 2};
@@ -275,8 +279,8 @@ static void nothing(void) {
     EXPECT(placing_evaluate(PLACING_SURFACE(&none), 0, 0, PLACING_ARRAY(out)) == PLACING_WEIGHTS);
 
     EXPECT(placing_evaluate(PLACING_SURFACE(&square), 0, 0, NULL, 0) == PLACING_MISFIT);
-    EXPECT(!placing_invert(PLACING_SURFACE(&square), 0.25, 0.5, 0.75, NULL, 0, 0.5, NULL, 0, NULL, 0,
-                           PLACING_ARRAY(budget), PLACING_ARRAY(out)));
+    EXPECT(!placing_invert(PLACING_SURFACE(&square), 0.25, 0.5, 0.75, NULL, 0, 0.5, NULL, 0, NULL,
+                           0, PLACING_ARRAY(budget), PLACING_ARRAY(out)));
     EXPECT(SAME(out, 0.25, 0.5));
     EXPECT(placing_invert(PLACING_SURFACE(&square), 0, 0, 0, NULL, 0, 0, NULL, 0, NULL, 0, NULL, 0,
                           PLACING_ARRAY(out)) == PLACING_MISFIT);
@@ -289,8 +293,8 @@ static void nothing(void) {
     EXPECT(!placing_row(PLACING_SURFACE(&square), PLACING_ARRAY(mark), NULL, 0, 0.5, NULL, 0, NULL,
                         0, PLACING_ARRAY(budget), PLACING_ARRAY(index), PLACING_ARRAY(out)));
     EXPECT(SAME(out, 0.25, 0.5));
-    EXPECT(placing_row(PLACING_SURFACE(&square), PLACING_ARRAY(mark), NULL, 0, 0.5, NULL, 0, NULL, 0,
-                       PLACING_ARRAY(budget), PLACING_ARRAY(index), NULL, 0) == PLACING_ROW);
+    EXPECT(placing_row(PLACING_SURFACE(&square), PLACING_ARRAY(mark), NULL, 0, 0.5, NULL, 0, NULL,
+                       0, PLACING_ARRAY(budget), PLACING_ARRAY(index), NULL, 0) == PLACING_ROW);
     EXPECT(placing_row(PLACING_SURFACE(&square), NULL, 0, NULL, 0, 0.5, NULL, 0, NULL, 0, NULL, 0,
                        PLACING_ARRAY(index), NULL, 0) == PLACING_MISFIT);
     EXPECT(placing_row(PLACING_SURFACE(&square), NULL, 0, NULL, 0, 0.5, NULL, 0, NULL, 0,
@@ -335,6 +339,6 @@ int main(void) {
     nothing();
     words();
     if (failures == 0)
-        puts("all as it should be");
+        puts("the library's callers in C: all as it should be");
     return failures != 0;
 }

@@ -23,9 +23,16 @@ struct Square {
     Numbers weights{1, 1, 1, 1};
 
     placing_surface lent() const {
-        return {1,           1,          2,          2,              0,
-                knots.data(), knots.size(), knots.data(), knots.size(), net.data(),
-                net.size(),  weights.data(), weights.size()};
+        placing_surface s = {};
+        s.degree_u = s.degree_v = 1;
+        s.controls_u = s.controls_v = 2;
+        s.knots_u = s.knots_v = knots.data();
+        s.knots_u_count = s.knots_v_count = knots.size();
+        s.controls = net.data();
+        s.controls_count = net.size();
+        s.weights = weights.data();
+        s.weights_count = weights.size();
+        return s;
     }
 };
 
@@ -71,6 +78,6 @@ int main() {
     EXPECT(placing_refusal_text(PLACING_MALFORMED) == std::string("the job file is malformed"));
 
     if (failures == 0)
-        std::puts("and from C++");
+        std::puts("the library's callers in C++: all as it should be");
     return failures != 0;
 }

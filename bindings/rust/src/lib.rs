@@ -29,7 +29,7 @@
 //! ```
 //!
 //! Nothing is shared between calls: any number of threads may call at once, on one surface too. A
-//! call takes at most STACK_CALL of stack, and [`job`] STACK_JOB; the library allocates nothing.
+//! call takes at most 128 KiB of stack, and [`job`] 256 KiB; the library allocates nothing.
 //!
 //! The build links `libplacing.a` from the folder that the environment variable
 //! `PLACING_LIBRARY_DIR` names, an absolute path, and where it is not set from `target/staticlib`
