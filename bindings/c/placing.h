@@ -10,9 +10,10 @@
  * budget, which is what is left of it, and in a row the index and the pairs of the marks before the
  * refused one.
  *
- * Nothing is shared between calls: any number of threads may call at once, on one surface too. A
- * call takes at most 128 KiB of stack, and placing_job 256 KiB; nothing is allocated. The
- * library needs memcpy and memset of the C library, and nothing else. */
+ * Nothing is shared between calls: any number of threads may call at once, on one surface too, each
+ * with room of its own for what is written. A call takes at most 128 KiB of stack, and placing_job
+ * 256 KiB; nothing is allocated. The library needs memcpy and memset of the C library, and nothing
+ * else. */
 #ifndef PLACING_H
 #define PLACING_H
 

@@ -66,7 +66,8 @@ impl Error for Refusal {}
 pub struct RowRefusal {
     pub refusal: Refusal,
     /// The index of the mark that could not be placed, from 0; all before it were. `None` where no
-    /// mark is at fault but the surface, the search or a slice: then none was placed.
+    /// mark is at fault but the surface, the search or a slice, which are tested before the first
+    /// mark: then none was placed.
     pub mark: Option<usize>,
 }
 
