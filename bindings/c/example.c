@@ -28,7 +28,7 @@ int main(void) {
         placing_invert(PLACING_SURFACE(&square), 0.25, 0.5, 0.75, PLACING_NONE, 0.5, PLACING_NONE,
                        PLACING_NONE, PLACING_ARRAY(budget), PLACING_ARRAY(pair));
     if (refused) {
-        printf("refused %" PRIu64 "\n", refused);
+        printf("refused: %s\n", placing_refusal_text(refused));
         return 1;
     }
     printf("u %g, v %g, and %" PRIu64 " units are left\n", pair[0], pair[1], budget[0]);
@@ -43,7 +43,8 @@ int main(void) {
     size_t placed = refused ? index[0] : sizeof marks / sizeof *marks / 3;
     for (size_t i = 0; i < placed; i++)
         printf("u %g, v %g\n", answers[2 * i], answers[2 * i + 1]);
-    printf("refused %" PRIu64 " at %" PRIu64 ", and %" PRIu64 " units are left\n", refused,
-           index[0], budget[0]);
+    if (refused)
+        printf("mark %" PRIu64 " is refused: %s\n", index[0], placing_refusal_text(refused));
+    printf("%" PRIu64 " units are left\n", budget[0]);
     return refused != PLACING_ARGUMENT;
 }

@@ -165,6 +165,16 @@ fn shifts_by_each_axis_of_its_own() {
 }
 
 #[test]
+fn a_search_is_free_by_default() {
+    let search = Search {
+        hint: Hint::Nothing,
+        tolerance: 0.,
+        periods: [Period::Free; 2],
+    };
+    assert_eq!(Search::default(), search);
+}
+
+#[test]
 fn refuses_searches() {
     let refused = |mark, search: Search| {
         let mut budget = 5;
