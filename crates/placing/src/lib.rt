@@ -95,6 +95,9 @@ pub extern "C" fn placing_invert(
     }
     let shape = shape_of(du, dv, nu, nv, flags);
     let mark = Vector3 { x, y, z };
+    let hint = hint_of(hint);
+    let pu = period_of(pu);
+    let pv = period_of(pv);
     let placing = invert(
         shape,
         ku,
@@ -102,10 +105,10 @@ pub extern "C" fn placing_invert(
         controls,
         weights,
         mark,
-        hint_of(hint),
+        hint,
         tolerance,
-        period_of(pu),
-        period_of(pv),
+        pu,
+        pv,
         budget[0],
     );
     lay_placing(placing, budget, pair)
