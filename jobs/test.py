@@ -122,7 +122,7 @@ class Program(unittest.TestCase):
         if subprocess.run([*command, "/", "true"], stderr=subprocess.DEVNULL).returncode:
             self.skipTest("no other root may be had here")
         with tempfile.TemporaryDirectory() as root:
-            shutil.copy(program, root)
+            shutil.copy(program, Path(root, "place"))
             with open(HERE / "square.job", "rb") as source:
                 ran = subprocess.run([*command, root, "/place"], stdin=source, capture_output=True, timeout=60)
             self.assertEqual((ran.stdout, ran.stderr), (PRINTED, b""))
@@ -172,14 +172,15 @@ class Service(unittest.TestCase):
 
     def test_place_and_check(self):
         with tempfile.TemporaryDirectory() as box, tempfile.TemporaryDirectory() as jobs:
-            for file in (program, HERE / "job.py", HERE / "place-and-check"):
-                shutil.copy(file, box)
-            shutil.copy(job.library(), box)
+            shutil.copy(program, Path(box, "place"))
+            shutil.copy(job.library(), Path(box, "libplacing.so"))
+            for file in ("job.py", "place-and-check"):
+                shutil.copy(HERE / file, box)
             for name, text, kept in (
                 ("near", TEXT.replace("tolerance 0.5", "tolerance 0.75"), True),
                 ("far", TEXT, False),
                 ("short", TEXT.replace("budget 1000", "budget 1"), False),
-                ("none", TEXT[: TEXT.index("mark")], True),
+                ("none", TEXT[: TEXT.index("\nmark") + 1], True),
             ):
                 Path(jobs, name + ".job").write_bytes(job.pack(text))
                 ran = subprocess.run([Path(box, "place-and-check"), name], cwd=jobs, capture_output=True, timeout=60)

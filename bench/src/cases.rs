@@ -1,6 +1,7 @@
 //! Surfaces, marks on them, and the port's call that places a mark.
 use crate::clamped;
 use oracle::calls::{Point, Search, Shell, Surface};
+use oracle::job::{Job, MOST_BYTES};
 use placing::raw::{self, Lent};
 
 pub const TOLERANCE: f64 = 1e-6;
@@ -73,5 +74,30 @@ pub fn lent(surface: &Surface) -> Lent<'_> {
         knots: [&surface.knots[0], &surface.knots[1]],
         controls: &surface.controls,
         weights: &surface.weights,
+    }
+}
+
+/// How many marks the file of a job on this surface has room for.
+pub fn room_for_marks(surface: &Surface) -> usize {
+    MOST_BYTES.saturating_sub(job(surface, Vec::new()).write().len()) / 26
+}
+
+/// The file of a job with as many marks as fit, lifted off the surface.
+pub fn full_job(surface: &Surface, lift: f64) -> Vec<u8> {
+    let shell = built(surface);
+    let lifted = |at| {
+        let [x, y, z] = on(&shell, at);
+        [x, y, z + lift]
+    };
+    let marks = along(room_for_marks(surface)).flat_map(lifted);
+    job(surface, marks.collect()).write()
+}
+
+fn job(surface: &Surface, marks: Vec<f64>) -> Job {
+    Job {
+        surface: surface.clone(),
+        tolerance: TOLERANCE,
+        budget: u64::MAX,
+        marks,
     }
 }

@@ -1,7 +1,6 @@
 //! The stack that each call takes at most, and whether memory grows over a million placings.
-use bench::cases::{TOLERANCE, along, built, bumpy, lent, on, placed, search};
+use bench::cases::{TOLERANCE, along, built, bumpy, full_job, lent, on, placed, search};
 use oracle::calls::{Point, Search};
-use oracle::job::{Job, MOST_BYTES};
 use placing::raw::{self, Lent};
 use std::ffi::{c_int, c_void};
 use std::fs;
@@ -22,7 +21,7 @@ fn main() {
         println!("{name:<44} {deep:>12}");
     }
     let deep = most(|degree| {
-        let file = longest_job(degree);
+        let file = full_job(&bumpy(degree, degree + 12), 0.);
         stack_of(&|| print(&file))
     });
     println!("{:<44} {deep:>12}", "job");
@@ -88,21 +87,6 @@ fn nurbs_singular(surface: &Lent, _: Point) {
 fn plane(_: &Lent, mark: Point) {
     let frame = [[0.; 3], [1., 0., 0.], [0., 1., 0.]];
     assert_eq!(raw::plane(frame, mark, &mut [1], &mut [0.; 2]), 0);
-}
-
-/// As many marks as the file of a job has room for.
-fn longest_job(degree: usize) -> Vec<u8> {
-    let surface = bumpy(degree, degree + 12);
-    let shell = built(&surface);
-    let mut job = Job {
-        surface,
-        tolerance: TOLERANCE,
-        budget: u64::MAX,
-        marks: Vec::new(),
-    };
-    let room = (MOST_BYTES - job.write().len()) / 26;
-    job.marks = along(room).flat_map(|at| on(&shell, at)).collect();
-    job.write()
 }
 
 fn print(file: &[u8]) {

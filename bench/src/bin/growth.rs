@@ -1,9 +1,10 @@
 //! How the time of an evaluation grows with the degree, and that of a first placing with the grid
-//! and with the controls beside it.
-use bench::cases::{along, built, bumpy, lent, on, placed, search};
+//! and with the controls beside it; and how long a job can take.
+use bench::cases::{along, built, bumpy, full_job, lent, on, placed, room_for_marks, search};
 use bench::{REPEATS, median, timed};
 use oracle::calls::{Point, Surface};
 use placing::raw;
+use std::time::Instant;
 
 fn main() {
     println!("{:<44} {:>12}", "an evaluation, tests included", "ns");
@@ -20,6 +21,12 @@ fn main() {
     }
     for degree in [1, 2, 4, 8, 16] {
         placing(degree, degree + 9);
+    }
+    placing(16, 63);
+    println!();
+    println!("{:<44} {:>12}", "the longest job of a degree", "s");
+    for degree in [1, 2, 4, 8, 12, 16] {
+        job(degree);
     }
 }
 
@@ -47,6 +54,25 @@ fn placing(degree: usize, controls: usize) {
         values(&surface)
     );
     println!("{name:<44} {:>12.0}", repeated(&marks, call) / 1000.);
+}
+
+/// Every mark off the surface by more than the tolerance, so that no hint ends a search: the whole
+/// grid is evaluated for each. The more controls, the finer the grid and the fewer marks fit.
+fn job(degree: usize) {
+    let work = |n: &usize| {
+        let surface = bumpy(degree, *n);
+        values(&surface).pow(2) * room_for_marks(&surface)
+    };
+    let controls = (degree + 1..=31).max_by_key(work).expect("some fit");
+    let surface = bumpy(degree, controls);
+    let file = full_job(&surface, 1.);
+    let start = Instant::now();
+    let printout = placing::job(&file);
+    let took = start.elapsed().as_secs_f64();
+    let marks = printout.iter().filter(|&&byte| byte == b'\n').count() - 1;
+    assert_eq!(marks, room_for_marks(&surface), "every mark is placed");
+    let name = format!("degree {degree}, {controls} by {controls} controls, {marks} marks");
+    println!("{name:<44} {took:>12.2}");
 }
 
 /// How many values the grid has on an axis, by document 01.
