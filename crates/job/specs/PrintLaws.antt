@@ -1,8 +1,10 @@
--- What every printout begins with, and what a malformed file prints. Assumes nothing.
-use mathlib.Core.Path.{_≡_, ap}
+-- What every printout begins with, what a malformed file prints, and where the printout lies in the buffer that `job` is lent. Assumes nothing.
+use mathlib.Core.Path.{_≡_, sym, ap, _∙_}
 use mathlib.Core.List.{List, _++_}
-use Prim.Native.Nat.{ℕ, _<_}
-use lib.ListN.{length}
+use Prim.Native.Nat.{ℕ, _≤_, _<_}
+use native.Mathlib.Omega.{arith}
+use lib.ListN.{length, take, length-append}
+use lib.Seq.{take-at}
 use Rattle.digits.specs.Text.{ascii, digit, digits, placesIn, decimal}
 use Rattle.inversion.specs.declared.Hint.the-variants.{Nothing}
 use Rattle.chart.specs.declared.Period.the-variants.{Free}
@@ -25,3 +27,14 @@ pub first-line-counts : (bytes : List ℕ) (job : Job) (rest : List ℕ) → par
     → printout bytes ≡ marksLine (length (job .marks)) ++ rowLines (rowed (job .surface) (job .marks) Nothing (job .terms .tolerance) Free Free (job .terms .budget))
 unfolding printout printed jobLines
 first-line-counts bytes job rest e = ap printed e
+
+-- what `job` ensures: the printout is the front of the buffer
+module _ (file rest : List ℕ) {buffer : List ℕ} {n : ℕ} (p : (buffer ≡ printout file ++ rest) × ((n ≡ length (printout file)) × (n ≤ 69632))) where
+  pub front : take n buffer ≡ printout file
+  front = ap (take n) (p .0) ∙ take-at (printout file) rest n (sym (p .1 .0))
+
+  pub front-inside : n ≤ length buffer
+  front-inside = omega (arith, p .1 .0, simp length-append at (ap length (p .0)))
+
+  pub front-length : n ≡ length (take n buffer)
+  front-length = p .1 .0 ∙ ap length (sym front)

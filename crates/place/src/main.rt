@@ -6,6 +6,7 @@ use libc::STDOUT_FILENO;
 ghost use mathlib.Core.Path.{_≡_};
 ghost use Prim.Native.Nat.{_+_, _^_, _≤_, _<_};
 ghost use lib.ListN.{length, take};
+ghost use Rattle.io.specs.Counts.{Counts};
 ghost use Rattle.job.specs.Printout.{printout};
 ghost use Rattle.place.specs.Reads.{Onward, afterRead};
 
@@ -27,7 +28,7 @@ fn main() {
     }
     let mut bytes = [0u8; ROOM];
     let got = read_rest(&mut bytes, 0);
-    print_first(&bytes, got);
+    print(&bytes[..got]);
 }
 
 // With any argument the program reads nothing and tells its version.
@@ -42,7 +43,7 @@ fn about() {
 fn read_rest(bytes: &mut [u8], from: usize) -> usize
     requires { ⌜ from ≤ length (now bytes) ⌝ }
     ensures { λ r. ⌜ take from (now (bytes .exit)) ≡ take from (now (bytes .entry)) ⌝ }
-    ensures { λ r. ⌜ r ≤ length (now (bytes .entry)) ⌝ }
+    ensures { λ r. ⌜ Counts r (now (bytes .exit)) ⌝ }
 {
     let mut have = from;
     for _ in 0..0xffff_ffff_ffff_ffffu64 {
@@ -88,29 +89,17 @@ fn after(have: usize, more: usize, failed: bool, interrupted: bool) -> Input
     Input::There(have + more)
 }
 
-fn print_first(bytes: &[u8], got: usize)
-    requires { ⌜ got ≤ length (now bytes) ⌝ }
-{
-    print(&bytes[..got]);
-}
-
 fn print(file: &[u8]) {
     let mut out = [0u8; job::MOST_PRINTED];
     let n = job::job(file, &mut out);
-    show(file, &out, n);
-}
-
-fn show(file: &[u8], out: &[u8; job::MOST_PRINTED], n: usize)
-    requires { ⌜ (take n (now out) ≡ printout (now file)) × (n ≤ 69632) ⌝ }
-{
-    write(file, out, n);
+    write(file, &out[..n]);
 }
 
 // A program has no exit status of its own to give: that a printout is not whole is told on standard error.
-fn write(file: &[u8], out: &[u8], n: usize)
-    requires { ⌜ (take n (now out) ≡ printout (now file)) × (n ≤ length (now out)) ⌝ }
+fn write(file: &[u8], printed: &[u8])
+    requires { ⌜ now printed ≡ printout (now file) ⌝ }
 {
-    if !io::write_all(STDOUT_FILENO, &out[..n]) {
+    if !io::write_all(STDOUT_FILENO, printed) {
         os::fail(b"the printout is not whole");
     }
 }

@@ -4,8 +4,7 @@ use mathlib.Core.Bool.{Bool, true, false}
 use mathlib.Core.List.{List, _++_}
 use Prim.Native.Nat.{ℕ, _≤_}
 use native.Mathlib.Omega.{arith}
-use lib.ListN.{length, take, getD, length-append}
-use lib.Seq.{take-at}
+use lib.ListN.{length, take, getD}
 use lib.Ieee.{Float}
 use Rattle.vector3.specs.declared.Vector3.{Vector3}
 use Rattle.surface.specs.declared.Shape.{Shape}
@@ -22,6 +21,7 @@ use Rattle.row.specs.RowLaws.{takenOf}
 use Rattle.edges.specs.declared.Edges.{Edges}
 use Rattle.edges.specs.Edges.{singular}
 use Rattle.job.specs.Printout.{printout}
+use Rattle.job.specs.PrintLaws.{front}
 use Rattle.lent.specs.Lent.{Evaluates, Places, Tells, Prints, jetInto, placingInto, firstOf, edgesInto, printoutInto}
 use Rattle.placing.specs.Boundary.{Rows, evaluatesIf, placesIf, rowsIf, tellsIf, printsIf}
 
@@ -118,16 +118,7 @@ pub job-unfit : (text xs ns : List ℕ) {b fit : Bool} → b ≡ fit → b ≡ f
 unfolding printsIf
 job-unfit text xs ns e h = rw (sym e ∙ h) refl
 
-module _ (file rest : List ℕ) {text : List ℕ} {n : ℕ} (p : (text ≡ printout file ++ rest) × ((n ≡ length (printout file)) × (n ≤ 69632))) where
-  pub front-inside : n ≤ length text
-  front-inside = omega (arith, p .1 .0, simp length-append at (ap length (p .0)))
-
-  front : take n text ≡ printout file
-  front = ap (take n) (p .0) ∙ take-at (printout file) rest n (sym (p .1 .0))
-
-  pub front-length : n ≡ length (take n text)
-  front-length = p .1 .0 ∙ ap length (sym front)
-
-  pub job-fits : (xs ns : List ℕ) {b fit : Bool} → b ≡ fit → b ≡ true → {k : ℕ} {ys ms : List ℕ} → prints k ys ms ≡ printoutInto (take n text) xs ns → prints k ys ms ≡ printsIf fit (printout file) xs ns
-  unfolding printsIf
-  job-fits xs ns e h q = rw (sym e ∙ h) (q ∙ ap (λ t. printoutInto t xs ns) front)
+pub job-fits : (file rest : List ℕ) {text : List ℕ} {n : ℕ} → (text ≡ printout file ++ rest) × ((n ≡ length (printout file)) × (n ≤ 69632)) → (xs ns : List ℕ) {b fit : Bool} → b ≡ fit → b ≡ true
+    → {k : ℕ} {ys ms : List ℕ} → prints k ys ms ≡ printoutInto (take n text) xs ns → prints k ys ms ≡ printsIf fit (printout file) xs ns
+unfolding printsIf
+job-fits file rest p xs ns e h q = rw (sym e ∙ h) (q ∙ ap (λ t. printoutInto t xs ns) (front file rest p))

@@ -2,7 +2,8 @@ use native.Mathlib.Omega.{arith}
 use borrow.Author.Tests.{not-true, not-false}
 use Rattle.lent.specs.FitLaws.{job-room}
 use Rattle.placing.specs.Boundary.{prints}
-use Rattle.placing.proofs.Steps.{job-unfit, front-inside, front-length, job-fits}
+use Rattle.job.specs.PrintLaws.{front-inside, front-length}
+use Rattle.placing.proofs.Steps.{job-unfit, job-fits}
 use borrow.Author.Needs.{needs}
 use Rattle.placing.proofs.placing_job.Statement.{statement}
 use Rattle.placing.proofs.placing_job.Tie as tie
