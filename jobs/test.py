@@ -176,17 +176,19 @@ class Service(unittest.TestCase):
             shutil.copy(job.library(), Path(box, "libplacing.so"))
             for file in ("job.py", "place-and-check"):
                 shutil.copy(HERE / file, box)
-            for name, text, kept in (
-                ("near", TEXT.replace("tolerance 0.5", "tolerance 0.75"), True),
-                ("far", TEXT, False),
-                ("short", TEXT.replace("budget 1000", "budget 1"), False),
-                ("none", TEXT[: TEXT.index("\nmark") + 1], True),
-            ):
+            texts = {
+                "near": TEXT.replace("tolerance 0.5", "tolerance 0.75"),
+                "far": TEXT,
+                "short": TEXT.replace("budget 1000", "budget 1"),
+                "none": TEXT[: TEXT.index("\nmark") + 1],
+            }
+            for name, text in texts.items():
                 Path(jobs, name + ".job").write_bytes(job.pack(text))
+            Path(jobs, "unread.job").mkdir()
+            for name, status in (("near", 0), ("far", job.FURTHER), ("short", job.REFUSED), ("none", 0), ("unread", 1)):
                 ran = subprocess.run([Path(box, "place-and-check"), name], cwd=jobs, capture_output=True, timeout=60)
-                self.assertEqual((ran.returncode == 0, ran.stdout), (kept, b""))
-                self.assertEqual(Path(jobs, name + ".printout").exists(), kept)
-            self.assertNotEqual(subprocess.run([Path(box, "place-and-check"), "missing"], cwd=jobs, stderr=subprocess.DEVNULL).returncode, 0)
+                self.assertEqual((ran.returncode, ran.stdout, bool(ran.stderr)), (status, b"", name == "unread"))
+                self.assertEqual(Path(jobs, name + ".printout").exists(), status == 0)
 
 
 class Words(unittest.TestCase):
