@@ -2,7 +2,7 @@
 use oracle::calls::{self, Jet, Pair, Point, Search, Shell, Spent, Surface};
 use oracle::generate::{Case, Inversion, Random, Row};
 use oracle::refusals::Refusal;
-use oracle::row;
+use oracle::{job, row};
 use placing::raw::{self, Lent};
 
 /// What a call answered and left, in words.
@@ -36,7 +36,27 @@ pub fn compare(case: &Case, r: &mut Random, mut told: impl FnMut(&'static str, C
             told("nurbs_singular", nurbs_singular(r, surface, *tolerance));
         }
         Case::Row(row) => told("row", place_row(r, row)),
+        Case::Job(file) => told("job", print(r, file)),
         _ => {}
+    }
+}
+
+fn print(r: &mut Random, file: &[u8]) -> Compared {
+    let text = job::print(file);
+    let mut printout = vec![r.word() as u8; raw::PRINTOUT_ROOM + r.below(3)];
+    let mut expected = printout.clone();
+    expected[..text.len()].copy_from_slice(text.as_bytes());
+    let mut written = [r.word(), r.word()];
+    let counts = [text.len() as u64, written[1]];
+    let lent = file.to_vec();
+    let number = raw::job(&lent, &mut printout, &mut written);
+    let last = text.lines().last().unwrap_or_default();
+    let refused = last
+        .strip_prefix("refused ")
+        .and_then(|line| line.split(' ').next());
+    Compared {
+        number: refused.map_or(0, |number| number.parse().expect("a number")),
+        same: (number, printout, written, &lent[..]) == (0, expected, counts, file),
     }
 }
 

@@ -18,7 +18,7 @@ struct Kind {
     draw: fn(&mut Random) -> Vec<Case>,
 }
 
-const KINDS: [Kind; 8] = [
+const KINDS: [Kind; 9] = [
     Kind {
         name: "sets",
         draw: |r| SETS.iter().flat_map(|set| (set.cases)(r)).collect(),
@@ -50,6 +50,10 @@ const KINDS: [Kind; 8] = [
     Kind {
         name: "rows",
         draw: |r| vec![Case::Row(generate::row(r))],
+    },
+    Kind {
+        name: "jobs",
+        draw: |r| vec![Case::Job(generate::job(r))],
     },
 ];
 
