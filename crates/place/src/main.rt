@@ -4,6 +4,7 @@ use libc::STDERR_FILENO;
 use libc::STDIN_FILENO;
 use libc::STDOUT_FILENO;
 ghost use mathlib.Core.Path.{_≡_};
+ghost use mathlib.Core.Logic.{_⊎_};
 ghost use Prim.Native.Nat.{_+_, _^_, _≤_, _<_};
 ghost use lib.ListN.{length, take};
 ghost use Rattle.io.specs.Counts.{Counts};
@@ -44,6 +45,7 @@ fn read_rest(bytes: &mut [u8], from: usize) -> usize
     requires { ⌜ from ≤ length (now bytes) ⌝ }
     ensures { λ r. ⌜ take from (now (bytes .exit)) ≡ take from (now (bytes .entry)) ⌝ }
     ensures { λ r. ⌜ Counts r (now (bytes .exit)) ⌝ }
+    ensures { λ r. ⌜ (r ≡ 0) ⊎ (from ≤ r) ⌝ }
 {
     let mut have = from;
     for _ in 0..0xffff_ffff_ffff_ffffu64 {

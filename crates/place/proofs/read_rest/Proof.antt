@@ -1,11 +1,12 @@
 -- `place::read_rest` meets its contract. The invariant: what is there has room, and what was there at first stays. Assumes nothing.
 use mathlib.Core.Path.{_≡_, refl, sym, ap, _∙_}
+use mathlib.Core.Logic.{inl, inr}
 use mathlib.Core.List.{List}
 use Prim.Native.Nat.{ℕ, _-_, _≤_}
 use native.Mathlib.Omega.{arith}
 use lib.ListN.{length, take}
-use lib.Seq.{length-take-le, take-take}
-use Rattle.io.specs.Counts.{Counts}
+use lib.Seq.{take-take}
+use Rattle.io.proofs.Counting.{counts}
 use Rattle.place.specs.declared.Input.{Input}
 use Rattle.place.specs.declared.Input.the-variants.{There}
 use Rattle.place.specs.Reads.{Onward}
@@ -15,12 +16,6 @@ use Rattle.place.proofs.read_rest.Tie as tie
 
 bounds : (have size : ℕ) (r : Input) (n : ℕ) → Onward have size r → r ≡ There n → (have ≤ n) × (n ≤ size)
 bounds have size r n w e = rw e at w
-
-counted : (n : ℕ) (xs : List ℕ) → n ≤ length xs → Counts n xs
-counted n xs h = (h, sym (length-take-le n xs h))
-
-none : (xs : List ℕ) → Counts 0 xs
-none xs = counted 0 xs (omega arith)
 
 stays : (from have : ℕ) (xs ys zs : List ℕ) → from ≤ have → take have xs ≡ take have ys → take from ys ≡ take from zs → take from xs ≡ take from zs
 stays from have xs ys zs h p q = sym (take-take from have xs h) ∙ ap (take from) p ∙ take-take from have ys h ∙ q
@@ -51,7 +46,7 @@ returns : tie.Need-returns Inv-loop μ-loop
 returns c =
     let r = c .before .before .before .before in
     let l = r .before .before .before .loop in
-    (stays _ _ _ _ _ (l .inv .0) (r .read-on .ensures .0) (l .inv .3), counted (l .have) (r .read-on .last .0) (search needs))
+    (stays _ _ _ _ _ (l .inv .0) (r .read-on .ensures .0) (l .inv .3), (counts (l .have) (r .read-on .last .0) (search needs), inr (l .inv .0)))
 
 enum-told-2 : tie.Need-enum-told-2 Inv-loop μ-loop
 enum-told-2 c = search needs
@@ -69,7 +64,7 @@ returns-2 : tie.Need-returns-2 Inv-loop μ-loop
 returns-2 c =
     let r = c .before .before .before .before .before .before in
     let l = r .before .before .before .loop in
-    (stays _ _ _ _ _ (l .inv .0) (r .read-on .ensures .0) (l .inv .3), none (r .read-on .last .0))
+    (stays _ _ _ _ _ (l .inv .0) (r .read-on .ensures .0) (l .inv .3), (counts 0 (r .read-on .last .0) (omega arith), inl refl))
 
 add-counter : tie.Need-add-counter Inv-loop μ-loop
 add-counter c = search needs
@@ -88,7 +83,7 @@ same-length-3 : tie.Need-same-length-3 Inv-loop μ-loop
 same-length-3 c = search needs
 
 returns-3 : tie.Need-returns-3 Inv-loop μ-loop
-returns-3 c = (c .before .loop .inv .3, none (c .before .loop .bytes))
+returns-3 c = (c .before .loop .inv .3, (counts 0 (c .before .loop .bytes) (omega arith), inl refl))
 
 pub read-rest-spec : {M : Type 1} → statement M
 read-rest-spec =
