@@ -2,4 +2,5 @@ pub mod Basis
 pub mod Rows
 pub mod Compute
 pub mod BasisLaws
+pub mod Magnitude
 pub mod Examples

@@ -6,6 +6,8 @@ pub mod Units
 pub mod Patterns
 pub mod Order
 pub mod Nonneg
+pub mod Differences
+pub mod Magnitude
 pub mod RootLaws
 pub mod RoundLaws
 pub mod RemainderLaws

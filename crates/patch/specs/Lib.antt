@@ -1,4 +1,5 @@
 pub mod Patch
 pub mod Compute
 pub mod Laws
+pub mod Magnitude
 pub mod Examples

@@ -48,7 +48,7 @@ module _ (m w : Float) (f : isFinite m ≡ true) (g : isFinite w ≡ true) where
   unfolding max
   max-is = rw (finite→number m f)
 
-  max-bounds : (isFinite (max m w) ≡ true) × (le m (max m w) ≡ true) × (le w (max m w) ≡ true)
+  pub max-bounds : (isFinite (max m w) ≡ true) × (le m (max m w) ≡ true) × (le w (max m w) ≡ true)
   max-bounds = rw max-is (by (lt m w) refl)
     where
       by : (t : Bool) → lt m w ≡ t → (isFinite (cond t w m) ≡ true) × (le m (cond t w m) ≡ true) × (le w (cond t w m) ≡ true)

@@ -5,4 +5,5 @@ pub mod Lent
 pub mod Net
 pub mod PatchLaws
 pub mod EvaluateLaws
+pub mod Magnitude
 pub mod Examples
