@@ -1,5 +1,6 @@
 pub mod Basis
 pub mod Rows
+pub mod Parts
 pub mod Compute
 pub mod BasisLaws
 pub mod Magnitude

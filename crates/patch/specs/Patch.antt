@@ -76,6 +76,10 @@ finiteVector a = isFinite (a .x) && isFinite (a .y) && isFinite (a .z)
 abbrev pub jetOf : Vector3 → Vector3 → Vector3 → Jet
 jetOf p a b = record { x = p .x; y = p .y; z = p .z; ux = a .x; uy = a .y; uz = a .z; vx = b .x; vy = b .y; vz = b .z }
 
+-- from the sums of the value and of the two first derivatives
+unfoldable pub jetOfSums : Sum → Sum → Sum → Jet
+jetOfSums s u v = let p = pointOf s in jetOf p (firstOf (s .w) u p) (firstOf (s .w) v p)
+
 -- second derivatives are worked out only to be tested: an overflow in one refuses the whole
 unfoldable pub finiteSeconds : Sums → Vector3 → Vector3 → Vector3 → Bool
 finiteSeconds s p a b =

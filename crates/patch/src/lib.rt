@@ -48,15 +48,21 @@ pub enum Evaluated {
     Refused,
 }
 
-pub fn empty_sums() -> Sums
-    ensures { λ r. ⌜ r ≡ Patch.emptySums ⌝ }
+pub fn empty_sum() -> Sum
+    ensures { λ r. ⌜ r ≡ Patch.emptySum ⌝ }
 {
-    let s = Sum {
+    Sum {
         w: 0.0,
         x: 0.0,
         y: 0.0,
         z: 0.0,
-    };
+    }
+}
+
+pub fn empty_sums() -> Sums
+    ensures { λ r. ⌜ r ≡ Patch.emptySums ⌝ }
+{
+    let s = empty_sum();
     Sums {
         value: s,
         u: s,
@@ -67,7 +73,8 @@ pub fn empty_sums() -> Sums
     }
 }
 
-fn more(c: f64, p: Vector3, s: Sum) -> Sum
+// A control p more, by the coefficient c.
+pub fn more(c: f64, p: Vector3, s: Sum) -> Sum
     ensures { λ r. ⌜ r ≡ Patch.more c p s ⌝ }
 {
     Sum {
@@ -100,7 +107,7 @@ pub fn with(a: Derivatives, b: Derivatives, weight: f64, p: Vector3, s: Sums) ->
     }
 }
 
-fn point(s: Sum) -> Vector3
+pub fn point(s: Sum) -> Vector3
     ensures { λ r. ⌜ r ≡ Patch.pointOf s ⌝ }
 {
     Vector3 {
@@ -189,21 +196,35 @@ fn finite_seconds(s: Sums, p: Vector3, a: Vector3, b: Vector3) -> bool
         & finite_vector(second(w, vv, v.w, b, p))
 }
 
+fn jet_of(p: Vector3, a: Vector3, b: Vector3) -> Jet
+    ensures { λ r. ⌜ r ≡ Patch.jetOf p a b ⌝ }
+{
+    Jet {
+        x: p.x,
+        y: p.y,
+        z: p.z,
+        ux: a.x,
+        uy: a.y,
+        uz: a.z,
+        vx: b.x,
+        vy: b.y,
+        vz: b.z,
+    }
+}
+
+// The point and its first derivatives, with no test.
+pub fn jet_of_sums(value: Sum, u: Sum, v: Sum) -> Jet
+    ensures { λ r. ⌜ r ≡ Patch.jetOfSums value u v ⌝ }
+{
+    let p = point(value);
+    jet_of(p, first(value.w, u, p), first(value.w, v, p))
+}
+
 fn jet_if(finite: bool, p: Vector3, a: Vector3, b: Vector3) -> Evaluated
     ensures { λ r. ⌜ r ≡ cond finite (Evaluated.Found (Patch.jetOf p a b)) Evaluated.Refused ⌝ }
 {
     if finite {
-        return Evaluated::Found(Jet {
-            x: p.x,
-            y: p.y,
-            z: p.z,
-            ux: a.x,
-            uy: a.y,
-            uz: a.z,
-            vx: b.x,
-            vy: b.y,
-            vz: b.z,
-        });
+        return Evaluated::Found(jet_of(p, a, b));
     }
     Evaluated::Refused
 }

@@ -10,17 +10,16 @@ use lib.Seq.{take-suc-set, take-set-lt, drop-set-lt, drop-cons, drop-drop, getD-
 use lib.Ieee.{Float, nan}
 use Rattle.float64.specs.Operators.{_⊘_, 0·}
 use Rattle.vector3.specs.declared.Vector3.{Vector3}
-use Rattle.basis.specs.declared.Basis.{Basis}
-use Rattle.basis.specs.Basis.{Three, three, threes}
 use Rattle.basis.specs.Rows.{Rows}
 use Rattle.patch.specs.declared.Sums.{Sums}
 use Rattle.patch.specs.declared.Evaluated.{Evaluated}
 use Rattle.patch.specs.Patch.{with, emptySums, rational}
 use Rattle.surface.specs.declared.Shape.{Shape}
-use Rattle.surface.specs.Surface.{Surface, surface, pointAt, heaviest, along, over, blended}
+use Rattle.surface.specs.Surface.{surface, pointAt, heaviest, blended}
 use Rattle.surface.specs.Lent.{lent, counted}
-use Rattle.surface.specs.Net.{scaledAlong, scaledOver, divided, alongBy, overBy, functions, sampleFrom, Patch, Weighed}
-use Rattle.surface.proofs.SumSteps.{Fold, row-next, length-threes, heaviest-lent}
+use Rattle.surface.specs.Net.{scaledAlong, scaledOver, divided, alongBy, overBy, sequence, threeAt, sampleFrom, Patch, Weighed}
+use Rattle.surface.specs.NetLaws.{length-sequence, threes-sequence, over-net}
+use Rattle.surface.proofs.SumSteps.{Fold, row-next}
 
 -- ---- writing: what stands there, and what is still to come, is the whole
 pub put : (xs : List Float) (n : ℕ) {w rest next : List Float} {x : Float} → w ≡ take n xs ++ rest → rest ≡ x ∷ next → n < length xs → w ≡ take (n + 1) (set xs n x) ++ next
@@ -42,11 +41,6 @@ module _ (ws : List Float) (m : Float) where
         let q : k - j ≡ 0 = omega arith in
         let p : j ≡ k = omega arith in
         sym (e ∙ rw (q, ← p, append-nil (take (from + j) net)))
-
-  length-scaled-along : (k i : ℕ) → length (scaledAlong ws m k i) ≡ k
-  unfolding scaledAlong
-  length-scaled-along zero i = refl
-  length-scaled-along (suc k) i = ap suc (length-scaled-along k (suc i))
 
   module _ (n k : ℕ) (w : List Float) (row rows column : ℕ) (i : ℕ) (net : List Float) where
     abbrev at : ℕ → ℕ
@@ -106,95 +100,56 @@ weighed shape ws m row column scaled net k hk hs hd l = record { whole = l; weig
 
 -- ---- the sums by what stands in the net
 
-abbrev threeAt : Basis → ℕ → Three
-threeAt b j = three (getD (b .values) j nan) (getD (b .firsts) j nan) (getD (b .seconds) j nan)
-
 abbrev pointOf : List Float → ℕ → Vector3
 pointOf cs i = pointAt (lent cs [] 0) 0· i
 
-pub along-by-fold : (cs net : List Float) (from : ℕ) (a : Three) (b : Basis) (at : ℕ)
-    → Fold (λ j t. with a (threeAt b j) (getD net (from + j) nan) (pointOf cs (at + j)) t) (λ n j t. alongBy cs a (threes b n j) (drop (from + j) net) (at + j) t)
-unfolding alongBy threes
-along-by-fold cs net from a b at = record {
-  none = λ j t. refl;
-  more = λ n j t.
-      let rest = drop-drop 1 (from + j) net ∙ ap (λ (k : ℕ). drop k net) (let q : from + j + 1 ≡ from + suc j = omega arith in q) in
-      let first = getD-drop (from + j) net 0 nan ∙ ap (λ (k : ℕ). getD net k nan) (add-zero (from + j)) in
-      ap (λ (xs : List Float). alongBy cs a (threes b n (suc j)) xs (suc (at + j)) (with a (threeAt b j) (getD (drop (from + j) net) 0 nan) (pointOf cs (at + j)) t)) rest
-      ∙ ap (λ (y : Float). alongBy cs a (threes b n (suc j)) (drop (from + suc j) net) (suc (at + j)) (with a (threeAt b j) y (pointOf cs (at + j)) t)) first
-      ∙ rw (add-suc at j);
-}
+module _ {A B T : Type 0} (turn : A → B → Float → Vector3 → T → T) (cs net : List Float) where
+  pub along-fold : (from : ℕ) (a : A) (f : ℕ → B) (at : ℕ)
+      → Fold (λ j t. turn a (f j) (getD net (from + j) nan) (pointOf cs (at + j)) t) (λ n j t. alongBy turn cs a (sequence f n j) (drop (from + j) net) (at + j) t)
+  unfolding alongBy sequence
+  along-fold from a f at = record {
+    none = λ j t. refl;
+    more = λ n j t.
+        let rest = drop-drop 1 (from + j) net ∙ ap (λ (k : ℕ). drop k net) (let q : from + j + 1 ≡ from + suc j = omega arith in q) in
+        let first = getD-drop (from + j) net 0 nan ∙ ap (λ (k : ℕ). getD net k nan) (add-zero (from + j)) in
+        ap (λ (xs : List Float). alongBy turn cs a (sequence f n (suc j)) xs (suc (at + j)) (turn a (f j) (getD (drop (from + j) net) 0 nan) (pointOf cs (at + j)) t)) rest
+        ∙ ap (λ (y : Float). alongBy turn cs a (sequence f n (suc j)) (drop (from + suc j) net) (suc (at + j)) (turn a (f j) y (pointOf cs (at + j)) t)) first
+        ∙ rw (add-suc at j);
+  }
 
-over-by-cons : (cs : List Float) (n : ℕ) (a : Three) (us bs : List Three) (xs : List Float) (i : ℕ) (t : Sums) {k : ℕ} → length bs ≡ k
-    → overBy cs n (a ∷ us) bs xs i t ≡ overBy cs n us bs (drop k xs) (i + n) (alongBy cs a bs xs i t)
-unfolding overBy
-over-by-cons cs n a us bs xs i t e = rw e
+  over-cons : (n : ℕ) (a : A) (us : List A) (bs : List B) (xs : List Float) (i : ℕ) (t : T) {k : ℕ} → length bs ≡ k
+      → overBy turn cs n (a ∷ us) bs xs i t ≡ overBy turn cs n us bs (drop k xs) (i + n) (alongBy turn cs a bs xs i t)
+  unfolding overBy
+  over-cons n a us bs xs i t e = rw e
 
-pub over-by-fold : (cs net : List Float) (n row : ℕ) (u : Basis) (column columns : ℕ) (v : Basis)
-    → Fold
-    (λ i t. alongBy cs (threeAt u i) (threes v columns 0) (drop (i * columns) net) ((row + i) * n + column) t)
-    (λ r i t. overBy cs n (threes u r i) (threes v columns 0) (drop (i * columns) net) ((row + i) * n + column) t)
-unfolding overBy threes
-over-by-fold cs net n row u column columns v = record {
-  none = λ i t. refl;
-  more = λ r i t.
-      let at = (row + i) * n + column in
-      let bs = threes v columns 0 in
-      let next = alongBy cs (threeAt u i) bs (drop (i * columns) net) at t in
-      let rest = drop-drop columns (i * columns) net ∙ ap (λ (k : ℕ). drop k net) (sym (suc-mul i columns)) in
-      over-by-cons cs n (threeAt u i) (threes u r (suc i)) bs (drop (i * columns) net) at t (length-threes v columns 0)
-      ∙ ap (λ (xs : List Float). overBy cs n (threes u r (suc i)) bs xs (at + n) next) rest
-      ∙ ap (λ (k : ℕ). overBy cs n (threes u r (suc i)) bs (drop (suc i * columns) net) k next) (sym (row-next row i n column));
-}
+  pub over-fold : (n row : ℕ) (f : ℕ → A) (column columns : ℕ) (g : ℕ → B)
+      → Fold
+      (λ i t. alongBy turn cs (f i) (sequence g columns 0) (drop (i * columns) net) ((row + i) * n + column) t)
+      (λ r i t. overBy turn cs n (sequence f r i) (sequence g columns 0) (drop (i * columns) net) ((row + i) * n + column) t)
+  unfolding overBy sequence
+  over-fold n row f column columns g = record {
+    none = λ i t. refl;
+    more = λ r i t.
+        let at = (row + i) * n + column in
+        let bs = sequence g columns 0 in
+        let next = alongBy turn cs (f i) bs (drop (i * columns) net) at t in
+        let rest = drop-drop columns (i * columns) net ∙ ap (λ (k : ℕ). drop k net) (sym (suc-mul i columns)) in
+        over-cons n (f i) (sequence f r (suc i)) bs (drop (i * columns) net) at t (length-sequence g columns 0)
+        ∙ ap (λ (xs : List Float). overBy turn cs n (sequence f r (suc i)) bs xs (at + n) next) rest
+        ∙ ap (λ (k : ℕ). overBy turn cs n (sequence f r (suc i)) bs (drop (suc i * columns) net) k next) (sym (row-next row i n column));
+  }
 
--- ---- the same sums by the definition
-
-module _ (s : Surface) (m k : Float) where
-  abbrev ws : List Float
-  ws = s .weights
-
-  along-by : (a : Three) (bs : List Three) (rest : List Float) (i : ℕ) (t : Sums) → alongBy (s .controls) a bs (divided k (scaledAlong ws m (length bs) i) ++ rest) i t ≡ along s m k a bs i t
-  unfolding alongBy along divided scaledAlong
-  along-by a [] rest i t = refl
-  along-by a (b ∷ bs) rest i t = along-by a bs rest (suc i) _
-
-  divided-append : (xs ys : List Float) → divided k (xs ++ ys) ≡ divided k xs ++ divided k ys
-  unfolding divided
-  divided-append [] ys = refl
-  divided-append (x ∷ xs) ys = ap (λ (zs : List Float). (x ⊘ k) ∷ zs) (divided-append xs ys)
-
-  length-divided : (xs : List Float) → length (divided k xs) ≡ length xs
-  unfolding divided
-  length-divided [] = refl
-  length-divided (x ∷ xs) = ap suc (length-divided xs)
-
-  over-by : (cs bs : List Three) (rest : List Float) (i : ℕ) (t : Sums)
-      → overBy (s .controls) (s .shape .v .controls) cs bs (divided k (scaledOver ws m (s .shape .v .controls) (length cs) (length bs) i) ++ rest) i t ≡ over s m k cs bs i t
-  unfolding overBy over scaledOver
-  over-by [] bs rest i t = refl
-  over-by (a ∷ cs) bs rest i t =
-      let n = s .shape .v .controls in
-      let row = scaledAlong ws m (length bs) i in
-      let below = scaledOver ws m n (length cs) (length bs) (i + n) in
-      let split : divided k (row ++ below) ++ rest ≡ divided k row ++ (divided k below ++ rest) = rw (divided-append row below, append-assoc (divided k row) (divided k below) rest) in
-      let next : drop (length bs) (divided k row ++ (divided k below ++ rest)) ≡ divided k below ++ rest = drop-at (divided k row) _ (length bs) (length-divided row ∙ length-scaled-along ws m (length bs) i) in
-      rw (split, next, along-by a bs (divided k below ++ rest) i t) (over-by cs bs rest (i + n) (along s m k a bs i t))
+pub turn-point : {A B T : Type 0} (turn : A → B → Float → Vector3 → T → T) (a : A) (b : B) (w : Float) {p q : Vector3} (t : T) {x : T} → x ≡ turn a b w p t → p ≡ q → x ≡ turn a b w q t
+turn-point turn a b w t e h = rw h at e
 
 module _ (shape : Shape) (ku kv cs ws : List Float) (m : Float) (row column : ℕ) (net : List Float) (w : Weighed shape ws m row column net) (u v : Rows) where
   pub blended-by : (t : Sums)
-      → t ≡ overBy cs (shape .v .controls) (threes (functions u) (shape .u .degree + 1) 0) (threes (functions v) (shape .v .degree + 1) 0) net (row * shape .v .controls + column) emptySums
+      → t ≡ overBy with cs (shape .v .controls) (sequence (threeAt u) (shape .u .degree + 1) 0) (sequence (threeAt v) (shape .v .degree + 1) 0) net (row * shape .v .controls + column) emptySums
       → (r : Evaluated) → r ≡ rational t
       → r ≡ blended (surface shape ku kv cs ws) m (sampleFrom (shape .u .degree) row u) (sampleFrom (shape .v .degree) column v)
   unfolding blended
   blended-by t et r er =
-      let s = surface shape ku kv cs ws in
-      let us = threes (functions u) (shape .u .degree + 1) 0 in
-      let vs = threes (functions v) (shape .v .degree + 1) 0 in
-      let at = row * shape .v .controls + column in
-      let k = heaviest s m us vs at 0· in
-      let size = (shape .u .degree + 1) * (shape .v .degree + 1) in
-      let hk : k ≡ heaviest (lent [] ws (shape .v .controls)) m (counted (shape .u .degree + 1)) (counted (shape .v .degree + 1)) at 0· =
-      heaviest-lent s m us vs at 0· ∙ rw (length-threes (functions u) (shape .u .degree + 1) 0, length-threes (functions v) (shape .v .degree + 1) 0) in
-      let hn : net ≡ divided k (scaledOver ws m (shape .v .controls) (length us) (length vs) at) ++ drop size net =
-      sym (take-append-drop size net) ∙ rw (w .weights, hk, length-threes (functions u) (shape .u .degree + 1) 0, length-threes (functions v) (shape .v .degree + 1) 0) in
-      er ∙ ap rational (et ∙ ap (λ (xs : List Float). overBy cs (shape .v .controls) us vs xs at emptySums) hn ∙ over-by s m k us vs (drop size net) at emptySums)
+      let rows = shape .u .degree + 1 in
+      let columns = shape .v .degree + 1 in
+      rw (threes-sequence u rows 0, threes-sequence v columns 0)
+      (er ∙ ap rational (et ∙ over-net (surface shape ku kv cs ws) m row column net w _ _ (length-sequence (threeAt u) rows 0) (length-sequence (threeAt v) columns 0)))

@@ -16,6 +16,7 @@ use Rattle.patch.specs.declared.Sums.{Sums}
 use Rattle.patch.specs.Patch.{with}
 use Rattle.surface.specs.Surface.{Surface, weightAt, pointAt, heaviestAlong, heaviest, along, over}
 use Rattle.surface.specs.Lent.{lent, counted, Within}
+use Rattle.surface.specs.NetLaws.{heaviest-along-lent}
 
 -- `fold k i` makes k turns, from number i on
 pub record Fold {T : Type 0} (turn : ℕ → T → T) (fold : ℕ → ℕ → T → T) : Type 0 where
@@ -41,27 +42,6 @@ row-inside {i} {rows} {j} {columns} {n} k w h = omega (arith, suc-mul (i + k) n,
 pub row-next : (i j n c : ℕ) → (i + suc j) * n + c ≡ (i + j) * n + c + n
 row-next i j n c = omega (arith, suc-mul (i + j) n)
 
--- ---- what is read of a surface, and of the functions where only weights count
-
-module _ (s : Surface) (m : Float) where
-  heaviest-along-lent : (n : ℕ) (bs : List Three) (i : ℕ) (w : Float) → heaviestAlong s m bs i w ≡ heaviestAlong (lent [] (s .weights) n) m (counted (length bs)) i w
-  unfolding heaviestAlong
-  heaviest-along-lent n [] i w = refl
-  heaviest-along-lent n (b ∷ bs) i w = heaviest-along-lent n bs (suc i) _
-
-  pub heaviest-lent : (cs bs : List Three) (i : ℕ) (w : Float)
-      → heaviest s m cs bs i w ≡ heaviest (lent [] (s .weights) (s .shape .v .controls)) m (counted (length cs)) (counted (length bs)) i w
-  unfolding heaviest
-  heaviest-lent [] bs i w = refl
-  heaviest-lent (a ∷ cs) bs i w =
-      let n = s .shape .v .controls in
-      heaviest-lent cs bs (i + n) _ ∙ ap (heaviest (lent [] (s .weights) n) m (counted (length cs)) (counted (length bs)) (i + n)) (heaviest-along-lent n bs i w)
-
-pub length-threes : (b : Basis) (k j : ℕ) → length (threes b k j) ≡ k
-unfolding threes
-length-threes b zero j = refl
-length-threes b (suc k) j = ap suc (length-threes b k (suc j))
-
 -- ---- the loops over weights
 
 pub heaviest-along-fold : (s : Surface) (m : Float) (at : ℕ) → Fold (λ j w. max w (weightAt s m (at + j))) (λ k j w. heaviestAlong s m (counted k) (at + j) w)
@@ -80,6 +60,3 @@ heaviest-fold ws m n row columns column = record {
       let e = heaviest-along-lent (lent [] ws n) m 0 (counted columns) at w in
       rw (row-next row i n column) (ap (heaviest (lent [] ws n) m (counted k) (counted columns) (at + n)) (rw length-replicate at e));
 }
-
-pub with-point : (a b : Three) (w : Float) {p q : Vector3} (t : Sums) {x : Sums} → x ≡ with a b w p t → p ≡ q → x ≡ with a b w q t
-with-point a b w t e h = rw h at e

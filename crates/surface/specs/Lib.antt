@@ -3,7 +3,9 @@ pub mod Compute
 pub mod SurfaceLaws
 pub mod Lent
 pub mod Net
+pub mod NetLaws
 pub mod PatchLaws
 pub mod EvaluateLaws
 pub mod Magnitude
+pub mod PartLaws
 pub mod Examples

@@ -5,14 +5,16 @@ use mathlib.Core.List.{List, [], _∷_, _++_}
 use Prim.Native.Nat.{ℕ, zero, suc, _+_, _*_, _≤_}
 use lib.ListN.{length, getD, take, drop}
 use lib.Ieee.{Float, nan}
-use Rattle.float64.specs.Operators.{_⊘_, 0·}
+use Rattle.float64.specs.Operators.{_⊗_, _⊘_, 0·}
+use Rattle.vector3.specs.declared.Vector3.{Vector3}
 use Rattle.basis.specs.declared.Basis.{Basis}
-use Rattle.basis.specs.Basis.{Three, Sample, sample, threes}
-use Rattle.basis.specs.Rows.{Rows, basisOf}
+use Rattle.basis.specs.Basis.{Three, three, Sample, sample, threes}
+use Rattle.basis.specs.Rows.{Rows, entry, basisOf}
+use Rattle.patch.specs.declared.Sum.{Sum}
 use Rattle.patch.specs.declared.Sums.{Sums}
-use Rattle.patch.specs.Patch.{with}
+use Rattle.patch.specs.Patch.{more, emptySums}
 use Rattle.surface.specs.declared.Shape.{Shape}
-use Rattle.surface.specs.Surface.{pointAt, heaviest}
+use Rattle.surface.specs.Surface.{Surface, pointAt, heaviest, over}
 use Rattle.surface.specs.Lent.{lent, counted, Within}
 
 -- the weights of k controls from number i on, each divided by m
@@ -29,14 +31,30 @@ unfoldable pub divided : Float → List Float → List Float
 divided k [] = []
 divided k (x ∷ xs) = (x ⊘ k) ∷ divided k xs
 
--- the sums over a row and over a patch, whose weights are the first of xs
-unfoldable pub alongBy : List Float → Three → List Three → List Float → ℕ → Sums → Sums
-alongBy cs a [] xs i t = t
-alongBy cs a (b ∷ bs) xs i t = alongBy cs a bs (drop 1 xs) (suc i) (with a b (getD xs 0 nan) (pointAt (lent cs [] 0) 0· i) t)
+-- Sums over a row and over a patch, whose weights are the first of xs. A turn adds a control, at which the functions of u and v are a and b.
+module _ {A B T : Type 0} (turn : A → B → Float → Vector3 → T → T) where
+  unfoldable pub alongBy : List Float → A → List B → List Float → ℕ → T → T
+  alongBy cs a [] xs i t = t
+  alongBy cs a (b ∷ bs) xs i t = alongBy cs a bs (drop 1 xs) (suc i) (turn a b (getD xs 0 nan) (pointAt (lent cs [] 0) 0· i) t)
 
-unfoldable pub overBy : List Float → ℕ → List Three → List Three → List Float → ℕ → Sums → Sums
-overBy cs n [] bs xs i t = t
-overBy cs n (a ∷ us) bs xs i t = overBy cs n us bs (drop (length bs) xs) (i + n) (alongBy cs a bs xs i t)
+  unfoldable pub overBy : List Float → ℕ → List A → List B → List Float → ℕ → T → T
+  overBy cs n [] bs xs i t = t
+  overBy cs n (a ∷ us) bs xs i t = overBy cs n us bs (drop (length bs) xs) (i + n) (alongBy cs a bs xs i t)
+
+-- the turn of one sum alone, by one number of each function
+abbrev pub term : Float → Float → Float → Vector3 → Sum → Sum
+term a b w p t = more (a ⊗ b ⊗ w) p t
+
+-- k of f from number j on
+unfoldable pub sequence : {B : Type 0} → (ℕ → B) → ℕ → ℕ → List B
+sequence f zero j = []
+sequence f (suc k) j = f j ∷ sequence f k (suc j)
+
+abbrev pub threeAt : Rows → ℕ → Three
+threeAt rows j = three (entry rows 0 j) (entry rows 1 j) (entry rows 2 j)
+
+abbrev pub numberAt : List Float → ℕ → Float
+numberAt row j = getD row j nan
 
 -- the functions that stand in rows, wherever they start
 abbrev pub functions : Rows → Basis
@@ -59,3 +77,12 @@ pub record Weighed (shape : Shape) (ws : List Float) (m : Float) (row column : �
       let n = shape .v .controls in
       let at = row * n + column in
       take (rows * columns) net ≡ divided (heaviest (lent [] ws n) m (counted rows) (counted columns) at 0·) (scaledOver ws m n rows columns at))
+
+-- ---- the sums of an evaluation, by functions cs of u and bs of v that start at row i and column j
+
+module _ (s : Surface) (m : Float) (i j : ℕ) (cs bs : List Three) where
+  abbrev pub heaviestOf : Float
+  heaviestOf = heaviest s m cs bs (i * s .shape .v .controls + j) 0·
+
+  abbrev pub sums : Sums
+  sums = over s m heaviestOf cs bs (i * s .shape .v .controls + j) emptySums

@@ -2,7 +2,7 @@
 use mathlib.Core.Path.{_≡_, refl, ap, _∙_}
 use mathlib.Core.Bool.{Bool, true, false, _&&_, and-eq-true-iff}
 use mathlib.Core.List.{List, _∷_}
-use Prim.Native.Nat.{ℕ, zero, suc, _+_, _*_}
+use Prim.Native.Nat.{ℕ, zero, suc, _+_, _*_, _<_}
 use native.Mathlib.Nat.{mul-le-mul-right}
 use native.Mathlib.Numerals.{add-one}
 use native.Mathlib.Omega.{arith}
@@ -40,6 +40,23 @@ module _ (s : Surface) (h : refusalOfSurface s ≡ 0) where
   pub controls-lent : length (s .controls) ≡ 3 * (s .shape .u .controls * s .shape .v .controls)
   controls-lent = let a = accepted-surface s h in omega arith
 
+  -- a patch that starts so has its degree + 1 rows and columns in the net
+  pub patch-below : (i j : ℕ) → i + s .shape .u .degree < s .shape .u .controls → j + s .shape .v .degree < s .shape .v .controls → Patch (s .shape) i j
+  patch-below i j k l =
+      let a = accepted-surface s h in
+      let au = accepted (axisU s) (a .knots-u) in
+      let av = accepted (axisV s) (a .knots-v) in
+      record {
+        inside = record {
+          few-rows = omega (arith, au .controls-most);
+          few = omega arith;
+          down = mul-le-mul-right {m = i + (s .shape .u .degree + 1)} {n = s .shape .u .controls} (s .shape .v .controls) (omega arith);
+          across = omega arith;
+        };
+        rows-most = au .degree-most;
+        columns-most = av .degree-most;
+      }
+
   module _ (x y : Float) (p q : Place) (us vs : Rows) (e : shown (s .shape .u .degree) (basisOf p us) ≡ sampleU s x) (f : shown (s .shape .v .degree) (basisOf q vs) ≡ sampleV s y) where
     -- both are found, or they are not
     module _ (b : (p .found && q .found) ≡ true) where
@@ -49,20 +66,7 @@ module _ (s : Surface) (h : refusalOfSurface s ≡ 0) where
       pub patch-at : Patch (s .shape) (p .start) (q .start)
       patch-at =
           let a = accepted-surface s h in
-          let au = accepted (axisU s) (a .knots-u) in
-          let av = accepted (axisV s) (a .knots-v) in
-          let i = start-below (axisU s) Right _ (basisOf p us) (a .knots-u) e (found .0) in
-          let j = start-below (axisV s) Right _ (basisOf q vs) (a .knots-v) f (found .1) in
-          record {
-            inside = record {
-              few-rows = omega (arith, au .controls-most);
-              few = omega arith;
-              down = mul-le-mul-right {m = p .start + (s .shape .u .degree + 1)} {n = s .shape .u .controls} (s .shape .v .controls) (omega arith);
-              across = omega arith;
-            };
-            rows-most = au .degree-most;
-            columns-most = av .degree-most;
-          }
+          patch-below (p .start) (q .start) (start-below (axisU s) Right _ (basisOf p us) (a .knots-u) e (found .0)) (start-below (axisV s) Right _ (basisOf q vs) (a .knots-v) f (found .1))
 
       pub both : (m : Float) (r : Evaluated) → r ≡ blended s m (sampleFrom (s .shape .u .degree) (p .start) us) (sampleFrom (s .shape .v .degree) (q .start) vs) → r ≡ evaluateBy s m x y
       unfolding evaluateBy

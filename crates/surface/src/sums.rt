@@ -3,8 +3,11 @@ use crate::Shape;
 use float64::larger;
 use patch::Derivatives;
 use patch::Evaluated;
+use patch::Sum;
 use patch::Sums;
+use patch::empty_sum;
 use patch::empty_sums;
+use patch::more;
 use patch::rational;
 use patch::with;
 use vector3::Vector3;
@@ -15,11 +18,10 @@ ghost use Prim.Native.Nat.{_+_, _*_, _≤_, _<_};
 ghost use lib.ListN.{length, take, drop};
 ghost use lib.Ieee.{Float, isNan};
 ghost use Rattle.float64.specs.Operators.{0·};
-ghost use Rattle.basis.specs.Basis.{threes};
-ghost use Rattle.patch.specs.Patch.{threeOf, emptySums};
+ghost use Rattle.patch.specs.Patch.{with, threeOf, emptySum, emptySums};
 ghost use Rattle.surface.specs.Surface.{surface, pointAt, heaviestAlong, heaviest, blended};
 ghost use Rattle.surface.specs.Lent.{lent, counted, Within};
-ghost use Rattle.surface.specs.Net.{scaledAlong, scaledOver, divided, alongBy, overBy, functions, sampleFrom, Patch, Weighed};
+ghost use Rattle.surface.specs.Net.{scaledAlong, scaledOver, divided, alongBy, overBy, term, sequence, threeAt, numberAt, sampleFrom, Patch, Weighed};
 
 // The weights of `count` controls from `at` on, each divided by `scale`, put into the net from `from` on. The largest of them and w.
 fn scale_along(
@@ -118,7 +120,7 @@ fn along(
     start: Sums,
 ) -> Sums
     requires { ⌜ (count ≤ 17) × (from + count ≤ 289) × (3 * (at + count) ≤ length (now controls)) ⌝ }
-    ensures { λ r. ⌜ r ≡ alongBy (now (controls .entry)) (threeOf a) (threes (functions (now (v .entry))) count 0) (drop from (now (net .entry))) at start ⌝ }
+    ensures { λ r. ⌜ r ≡ alongBy with (now (controls .entry)) (threeOf a) (sequence (threeAt (now (v .entry))) count 0) (drop from (now (net .entry))) at start ⌝ }
 {
     let mut sums = start;
     for j in 0..count {
@@ -143,7 +145,7 @@ fn over(
     column: usize,
 ) -> Sums
     requires { ⌜ (length (now controls) ≡ 3 * (shape .u .controls * shape .v .controls)) × Patch shape row column ⌝ }
-    ensures { λ r. ⌜ r ≡ overBy (now (controls .entry)) (shape .v .controls) (threes (functions (now (u .entry))) (shape .u .degree + 1) 0) (threes (functions (now (v .entry))) (shape .v .degree + 1) 0) (now (net .entry)) (row * shape .v .controls + column) emptySums ⌝ }
+    ensures { λ r. ⌜ r ≡ overBy with (now (controls .entry)) (shape .v .controls) (sequence (threeAt (now (u .entry))) (shape .u .degree + 1) 0) (sequence (threeAt (now (v .entry))) (shape .v .degree + 1) 0) (now (net .entry)) (row * shape .v .controls + column) emptySums ⌝ }
 {
     let along_u = shape.u;
     let along_v = shape.v;
@@ -160,6 +162,52 @@ fn over(
         sums = along(controls, net, i * columns, a, v, at, columns, sums);
     }
     sums
+}
+
+// One sum alone, of a row, by one number of each function: a is that of u.
+fn sum_along(
+    controls: &[f64],
+    net: &[f64; 289],
+    from: usize,
+    a: f64,
+    v: &[f64; 18],
+    at: usize,
+    count: usize,
+    start: Sum,
+) -> Sum
+    requires { ⌜ (count ≤ 17) × (from + count ≤ 289) × (3 * (at + count) ≤ length (now controls)) ⌝ }
+    ensures { λ r. ⌜ r ≡ alongBy term (now (controls .entry)) a (sequence (numberAt (now (v .entry))) count 0) (drop from (now (net .entry))) at start ⌝ }
+{
+    let mut sum = start;
+    for j in 0..count {
+        sum = more(a * v[j] * net[from + j], control(controls, at + j), sum);
+    }
+    sum
+}
+
+// The same of the patch that starts at a row and a column.
+pub fn sum_over(
+    shape: Shape,
+    controls: &[f64],
+    net: &[f64; 289],
+    u: &[f64; 18],
+    row: usize,
+    v: &[f64; 18],
+    column: usize,
+) -> Sum
+    requires { ⌜ (length (now controls) ≡ 3 * (shape .u .controls * shape .v .controls)) × Patch shape row column ⌝ }
+    ensures { λ r. ⌜ r ≡ overBy term (now (controls .entry)) (shape .v .controls) (sequence (numberAt (now (u .entry))) (shape .u .degree + 1) 0) (sequence (numberAt (now (v .entry))) (shape .v .degree + 1) 0) (now (net .entry)) (row * shape .v .controls + column) emptySum ⌝ }
+{
+    let along_u = shape.u;
+    let along_v = shape.v;
+    let columns = along_v.degree + 1;
+    let stride = along_v.controls;
+    let mut sum = empty_sum();
+    for i in 0..along_u.degree + 1 {
+        let at = (row + i) * stride + column;
+        sum = sum_along(controls, net, i * columns, u[i], v, at, columns, sum);
+    }
+    sum
 }
 
 // The point and its derivatives where the functions of the axes start at a row and a column, with the weights of that patch.

@@ -4,19 +4,18 @@ use Prim.Native.Nat.{_+_, _-_, _≤_}
 use native.Mathlib.Nat.{add-zero, sub-zero}
 use native.Mathlib.Omega.{arith}
 use lib.ListN.{drop}
-use Rattle.basis.specs.Basis.{threes}
-use Rattle.patch.specs.Patch.{threeOf}
-use Rattle.surface.specs.Net.{alongBy, functions}
-use Rattle.surface.proofs.SumSteps.{go, stop, with-point}
-use Rattle.surface.proofs.NetSteps.{along-by-fold}
+use Rattle.patch.specs.Patch.{with, threeOf}
+use Rattle.surface.specs.Net.{alongBy, sequence, threeAt}
+use Rattle.surface.proofs.SumSteps.{go, stop}
+use Rattle.surface.proofs.NetSteps.{along-fold, turn-point}
 use borrow.Author.Needs.{needs}
 use Rattle.surface.proofs.sums.along.Statement.{statement}
 use Rattle.surface.proofs.sums.along.Tie as tie
 
 abbrev Inv-loop : tie.InvT-loop
 Inv-loop controls net from a v at count sums₀ j₀ sums j =
-    let b = functions v in
-    (j ≤ count) × (alongBy controls (threeOf a) (threes b count 0) (drop from net) at sums₀ ≡ alongBy controls (threeOf a) (threes b (count - j) j) (drop (from + j) net) (at + j) sums)
+    (j ≤ count)
+    × (alongBy with controls (threeOf a) (sequence (threeAt v) count 0) (drop from net) at sums₀ ≡ alongBy with controls (threeOf a) (sequence (threeAt v) (count - j) j) (drop (from + j) net) (at + j) sums)
 
 abbrev μ-loop : tie.MeasureT-loop
 μ-loop controls net from a v at count sums₀ j₀ sums j = count - j
@@ -98,11 +97,11 @@ loop-again : tie.Need-loop-again Inv-loop μ-loop
 loop-again c =
     let turn = c .before .before .before .before .before .before in
     let at = turn .before in
-    (omega arith, go (along-by-fold _ _ _ _ _ _) _ (at .loop .j) _ _ (at .loop .inv .1) (omega arith) _ (with-point _ _ _ _ (c .with .ensures) (c .before .control .ensures)))
+    (omega arith, go (along-fold with _ _ _ _ _ _) _ (at .loop .j) _ _ (at .loop .inv .1) (omega arith) _ (turn-point with _ _ _ _ (c .with .ensures) (c .before .control .ensures)))
 
 -- src/sums.rt:109:1
 returns : tie.Need-returns Inv-loop μ-loop
-returns c = stop (along-by-fold _ _ _ _ _ _) _ (c .before .loop .j) _ _ (c .before .loop .inv .1) (omega arith)
+returns c = stop (along-fold with _ _ _ _ _ _) _ (c .before .loop .j) _ _ (c .before .loop .inv .1) (omega arith)
 
 pub along-spec : {M : Type 1} → statement M
 along-spec =

@@ -4,20 +4,19 @@ use Prim.Native.Nat.{_+_, _*_, _-_, _≤_}
 use native.Mathlib.Nat.{add-zero, sub-zero, zero-mul}
 use native.Mathlib.Omega.{arith}
 use lib.ListN.{drop}
-use Rattle.basis.specs.Basis.{threes}
-use Rattle.patch.specs.Patch.{emptySums}
-use Rattle.surface.specs.Net.{overBy, functions}
+use Rattle.patch.specs.Patch.{with, emptySums}
+use Rattle.surface.specs.Net.{overBy, sequence, threeAt}
 use Rattle.surface.proofs.SumSteps.{go, stop, row-inside}
-use Rattle.surface.proofs.NetSteps.{over-by-fold, row-room}
+use Rattle.surface.proofs.NetSteps.{over-fold, row-room}
 use borrow.Author.Needs.{needs}
 use Rattle.surface.proofs.sums.over.Statement.{statement}
 use Rattle.surface.proofs.sums.over.Tie as tie
 
 abbrev Inv-loop : tie.InvT-loop
 Inv-loop controls net u row v column columns stride sums₀ i₀ i-end sums i =
-    let bs = threes (functions v) columns 0 in
+    let bs = sequence (threeAt v) columns 0 in
     (i ≤ i-end)
-    × (overBy controls stride (threes (functions u) i-end 0) bs net (row * stride + column) emptySums ≡ overBy controls stride (threes (functions u) (i-end - i) i) bs (drop (i * columns) net) ((row + i) * stride + column) sums)
+    × (overBy with controls stride (sequence (threeAt u) i-end 0) bs net (row * stride + column) emptySums ≡ overBy with controls stride (sequence (threeAt u) (i-end - i) i) bs (drop (i * columns) net) ((row + i) * stride + column) sums)
 
 abbrev μ-loop : tie.MeasureT-loop
 μ-loop controls net u row v column columns stride sums₀ i₀ i-end sums i = i-end - i
@@ -124,11 +123,11 @@ loop-again c =
     let turn = c .before .before .before .before in
     let l = turn .before .loop in
     let more = turn .loop-test .taken in
-    (omega (arith, more), go (over-by-fold _ _ _ _ _ _ _ _) _ (l .i) _ _ (l .inv .1) more _ (c .along .ensures))
+    (omega (arith, more), go (over-fold with _ _ _ _ _ _ _ _) _ (l .i) _ _ (l .inv .1) more _ (c .along .ensures))
 
 -- src/sums.rt:135:1
 returns : tie.Need-returns Inv-loop μ-loop
-returns c = stop (over-by-fold _ _ _ _ _ _ _ _) _ (c .before .loop .i) _ _ (c .before .loop .inv .1) (omega arith)
+returns c = stop (over-fold with _ _ _ _ _ _ _ _) _ (c .before .loop .i) _ _ (c .before .loop .inv .1) (omega arith)
 
 pub over-spec : {M : Type 1} → statement M
 over-spec =
