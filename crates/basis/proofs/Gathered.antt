@@ -66,7 +66,7 @@ blank-shape : Shaped blank
 blank-shape = record { tall = refl; wide = λ r h. ap length (blank-row r h) }
 
 module _ (ks : List Float) (start p : ℕ) (u : Float) (small : p ≤ 16) where
-  first : Columns (put blank 0 p 1·) (E ks start p u 0)
+  pub first : Columns (put blank 0 p 1·) (E ks start p u 0)
   unfolding N
   first = record {
     shape = shaped blank blank-shape 0 p 1· (omega arith);

@@ -25,6 +25,34 @@ by false f g = g refl
 pub cells : {x y z x' y' z' : Float} → x ≡ x' → y ≡ y' → z ≡ z' → cell x y z ≡ cell x' y' z'
 cells p q r = cc
 
+-- ---- what is f below j, and g from there on
+
+abbrev pub till : {A : Type 0} → (ℕ → A) → (ℕ → A) → ℕ → ℕ → A
+till f g j k = cond (ltb k j) (f k) (g k)
+
+module _ {A : Type 0} (f g : ℕ → A) (j k : ℕ) where
+  pub till-below : k < j → till f g j k ≡ f k
+  till-below h = simp (lt-ltb k j h)
+
+  pub till-from : j ≤ k → till f g j k ≡ g k
+  till-from h = simp (le-ltb k j h)
+
+  pub till-begin : (k < j → f k ≡ g k) → g k ≡ till f g j k
+  till-begin h = by (ltb k j) (λ t. simp (t, h (ltb-true k j t))) (λ t. simp t)
+
+  pub till-next : (k ≡ j → ⊥) → till f g j k ≡ till f g (j + 1) k
+  till-next n =
+      by (ltb k j)
+      (λ t.
+      let l : k < j = ltb-true k j t in
+      simp (t, lt-ltb k (j + 1) (omega arith)))
+      (λ t.
+      let l : j ≤ k = ltb-false k j t in
+      simp (t, le-ltb k (j + 1) (omega (arith, n))))
+
+  pub till-over : (j ≤ k → f k ≡ g k) → till f g j k ≡ f k
+  till-over h = by (ltb k j) (λ t. simp t) (λ t. simp (t, h (ltb-false k j t)))
+
 -- ---- a number written at row r, column j
 
 abbrev pub put : Rows → ℕ → ℕ → Float → Rows
@@ -111,7 +139,7 @@ zero-more : 0· ⊕ 0· ≡ 0·
 unfolding Float64.compute
 zero-more = refl
 
-mixed : (ks : List Float) (u : Float) (d i : ℕ) (x y z x' y' z' : Float)
+pub mixed : (ks : List Float) (u : Float) (d i : ℕ) (x y z x' y' z' : Float)
     → cellOf (mixOf (termAt ks i d (ofNat d) u x y) (termAt ks (i + 1) d (ofNat d) u x' y')) ≡ blend ks u d i (cell x y z) (cell x' y' z')
 unfolding mixOf termAt blend right
 mixed ks u d i x y z x' y' z' =
@@ -128,13 +156,13 @@ module _ (ks : List Float) (start p : ℕ) (u : Float) where
 
   -- below column j degree d + 1, from there on degree d
   abbrev pub mid : ℕ → ℕ → ℕ → Cell
-  mid d j k = cond (ltb k j) (E (suc d) k) (E d k)
+  mid d = till (E (suc d)) (E d)
 
   -- the terms of column j in the sums of degree d + 1
   abbrev pub terms : ℕ → ℕ → Rows → Term
   terms d j rows = termAt ks (start + j) (d + 1) (ofNat (d + 1)) u (entry rows 0 j) (entry rows 1 j)
 
-  inside : (d j : ℕ) → p ≤ j + suc d → j ≤ p → E (suc d) j ≡ blend ks u (suc d) (start + j) (E d j) (E d (j + 1))
+  pub inside : (d j : ℕ) → p ≤ j + suc d → j ≤ p → E (suc d) j ≡ blend ks u (suc d) (start + j) (E d j) (E d (j + 1))
   unfolding N
   inside d j a b =
       let q : start + (j + 1) ≡ suc (start + j) = omega arith in
@@ -150,35 +178,28 @@ module _ (ks : List Float) (start p : ℕ) (u : Float) where
   right-of zero j h = simp (ne-eqb (start + j) (start + p) (λ e. omega arith))
   right-of (suc d) j h = simp (lt-leb (start + j) (start + p) (omega arith))
 
+  -- a column that is not raised is the same of both degrees
+  pub left-same : (d k : ℕ) → k + suc d < p → E (suc d) k ≡ E d k
+  left-same d k h = left-of (suc d) k h ∙ sym (left-of d k (omega arith))
+
+  pub right-same : (d k : ℕ) → p < k → E (suc d) k ≡ E d k
+  right-same d k h = right-of (suc d) k h ∙ sym (right-of d k h)
+
   module _ (d : ℕ) (small : p ≤ 16) (less : d < p) where
     -- before the first column is raised, and after the last
     pub begin : (rows : Rows) → Columns rows (E d) → Columns rows (mid d (p - (d + 1)))
-    begin rows h = respects rows (E d) (mid d (p - (d + 1))) same h
-      where
-        same : (k : ℕ) → k < 18 → E d k ≡ mid d (p - (d + 1)) k
-        same k l = by (ltb k (p - (d + 1)))
-            (λ t.
-            let b : k < p - (d + 1) = ltb-true k (p - (d + 1)) t in
-            simp (t, left-of d k (omega arith), left-of (suc d) k (omega arith)))
-            (λ t. simp t)
+    begin rows h = respects rows (E d) (mid d (p - (d + 1))) (λ k l. till-begin (E (suc d)) (E d) (p - (d + 1)) k (λ b. left-same d k (omega arith))) h
 
     pub over : (j : ℕ) (rows : Rows) → p + 1 ≤ j → Columns rows (mid d j) → Columns rows (E (suc d))
-    over j rows a h = respects rows (mid d j) (E (suc d)) same h
-      where
-        same : (k : ℕ) → k < 18 → mid d j k ≡ E (suc d) k
-        same k l = by (ltb k j)
-            (λ t. simp t)
-            (λ t.
-            let b : j ≤ k = ltb-false k j t in
-            simp (t, right-of d k (omega arith), right-of (suc d) k (omega arith)))
+    over j rows a h = respects rows (mid d j) (E (suc d)) (λ k l. till-over (E (suc d)) (E d) j k (λ b. right-same d k (omega arith))) h
 
     -- the entry e of column j, of its terms a and those of the next column, b
     module _ (j : ℕ) (rows : Rows) (a b : Term) (e : Entry) (h : Columns rows (mid d j)) (low : p - (d + 1) ≤ j) (high : j < p + 1)
         (from-a : a ≡ terms d j rows) (from-b : b ≡ terms d (j + 1) rows) (from-both : e ≡ mixOf a b) where
       raised : E (suc d) j ≡ cellOf e
       raised =
-          let x : E d j ≡ column rows j = sym (h .same j (omega arith) ∙ simp (le-ltb j j (omega arith))) in
-          let y : E d (j + 1) ≡ column rows (j + 1) = sym (h .same (j + 1) (omega arith) ∙ simp (le-ltb (j + 1) j (omega arith))) in
+          let x : E d j ≡ column rows j = sym (h .same j (omega arith) ∙ till-from (E (suc d)) (E d) j j (omega arith)) in
+          let y : E d (j + 1) ≡ column rows (j + 1) = sym (h .same (j + 1) (omega arith) ∙ till-from (E (suc d)) (E d) j (j + 1) (omega arith)) in
           let q : start + (j + 1) ≡ start + j + 1 = omega arith in
           let m : e ≡ mixOf (terms d j rows) (termAt ks (start + j + 1) (d + 1) (ofNat (d + 1)) u (entry rows 0 (j + 1)) (entry rows 1 (j + 1))) = cc in
           inside d j (omega arith) (omega arith)
@@ -187,16 +208,6 @@ module _ (ks : List Float) (start p : ℕ) (u : Float) where
           ∙ ap (λ (n : ℕ). blend ks u n (start + j) (column rows j) (column rows (j + 1))) (sym (add-one d))
           ∙ sym (ap cellOf m ∙ mixed ks u (d + 1) (start + j) _ _ _ _ _ _)
 
-      same : (k : ℕ) → (k ≡ j → ⊥) → mid d j k ≡ mid d (j + 1) k
-      same k n =
-          by (ltb k j)
-          (λ t.
-          let l : k < j = ltb-true k j t in
-          simp (t, lt-ltb k (j + 1) (omega arith)))
-          (λ t.
-          let l : j ≤ k = ltb-false k j t in
-          simp (t, le-ltb k (j + 1) (omega (arith, n))))
-
       abbrev after : Rows
       after = write rows j (e .value) (e .first) (e .second)
 
@@ -204,7 +215,7 @@ module _ (ks : List Float) (start p : ℕ) (u : Float) where
       unfolding checked
       go t =
           let new : cell (e .value) (e .first) (e .second) ≡ E (suc d) j = sym (raised ∙ simp t) in
-          written rows j (e .value) (e .first) (e .second) (mid d j) (mid d (j + 1)) h (omega arith) (new ∙ simp (lt-ltb j (j + 1) (omega arith))) same
+          written rows j (e .value) (e .first) (e .second) (mid d j) (mid d (j + 1)) h (omega arith) (new ∙ sym (till-below (E (suc d)) (E d) (j + 1) j (omega arith))) (till-next (E (suc d)) (E d) j)
 
       pub carried : b ≡ terms d (j + 1) after
       carried =

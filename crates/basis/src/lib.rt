@@ -1,7 +1,11 @@
 // The functions of a B-spline basis that are not zero at a parameter, with their first and second derivatives.
+mod values;
+
 use float64::is_finite;
 use spline::KnotSide;
 use spline::Snapped;
+pub use values::tabulate_firsts;
+pub use values::tabulate_values;
 ghost use mathlib.Core.Path.{_≡_};
 ghost use Prim.Native.Nat.{_+_, _≤_, _<_, suc};
 ghost use lib.ListN.{length};
@@ -19,7 +23,7 @@ pub struct Basis {
 }
 
 // A function's value, first and second derivative.
-struct Entry {
+pub(crate) struct Entry {
     pub value: f64,
     pub first: f64,
     pub second: f64,
@@ -32,7 +36,7 @@ pub struct Place {
 }
 
 // A function's terms in the sums of the next degree: rising in the one at its own index, falling in the one before.
-struct Term {
+pub(crate) struct Term {
     pub present: bool,
     pub rising: f64,
     pub falling: f64,
@@ -41,7 +45,15 @@ struct Term {
 }
 
 // The terms of the function at i in the sums of degree d, which is n as a float. None where its knots leave no width.
-fn term_at(knots: &[f64], i: usize, d: usize, n: f64, u: f64, value: f64, first: f64) -> Term
+pub(crate) fn term_at(
+    knots: &[f64],
+    i: usize,
+    d: usize,
+    n: f64,
+    u: f64,
+    value: f64,
+    first: f64,
+) -> Term
     requires { ⌜ i + d < length (now knots) ⌝ }
     ensures { λ r. ⌜ r ≡ termAt (now (knots .entry)) i d n u value first ⌝ }
 {
@@ -67,7 +79,7 @@ fn term_at(knots: &[f64], i: usize, d: usize, n: f64, u: f64, value: f64, first:
 }
 
 // The sum of the rising term of a and the falling term of b.
-fn mix(a: Term, b: Term) -> Entry
+pub(crate) fn mix(a: Term, b: Term) -> Entry
     ensures { λ r. ⌜ r ≡ mixOf a b ⌝ }
 {
     let value = 0.0 + a.rising;

@@ -1,0 +1,167 @@
+-- Raising a row of values in place, and what the row shows. Assumes nothing.
+use mathlib.Core.Path.{_≡_, refl, sym, ap, _∙_}
+use mathlib.Core.Bool.{true, false}
+use mathlib.Core.List.{List, _∷_}
+use Prim.Native.Nat.{ℕ, zero, suc, _+_, _-_, _≤_, _<_}
+use native.Mathlib.Omega.{arith}
+use lib.Dec.{eqb}
+use lib.ListN.{length, getD, set, take, drop, replicate, length-set}
+use lib.Seq.{getD-set-same, getD-set-other, drop-cons}
+use lib.Ieee.{Float, nan, eq}
+use borrow.Author.Tests.{eqb-true, eqb-false}
+use Rattle.float64.specs.Operators.{_⊖_, 0·, 1·, ofNat}
+use Rattle.spline.specs.Knots.{Axis, low, high, refusalOfKnots, snapped, spanAt}
+use Rattle.spline.specs.KnotLaws.{accepted}
+use Rattle.spline.specs.declared.parameter.KnotSide.{KnotSide}
+use Rattle.spline.specs.declared.parameter.Snapped.{Snapped}
+use Rattle.spline.specs.declared.parameter.Snapped.the-variants.{At, Outside}
+use Rattle.basis.specs.BasisLaws.{bounds}
+use Rattle.basis.specs.Magnitude.{Bounded, axis-unbroken}
+use Rattle.basis.specs.declared.Entry.{Entry}
+use Rattle.basis.specs.declared.Term.{Term}
+use Rattle.basis.specs.Basis.{Cell, none, cell, checked, blend, N, row, Three, three, Sample, refused, sample, joined, gathered, sampleAt, basisAt}
+use Rattle.basis.specs.Rows.{cellOf, finite, termAt, mixOf}
+use Rattle.basis.specs.Parts.{valueIn, firstIn, part, partOf, shownPart, Row, Unbroken}
+use Rattle.basis.proofs.Rows.{by, till, till-below, till-from, till-begin, till-next, till-over, mixed, E, inside, left-same, right-same}
+use Rattle.basis.proofs.Gathered.{first}
+
+-- ---- a row
+
+respects : (row : List Float) (f g : ℕ → Float) → ((k : ℕ) → f k ≡ g k) → Row row f → Row row g
+respects row f g e h = record { wide = h .wide; same = λ k l. h .same k l ∙ e k }
+
+pub written : (row : List Float) (f g : ℕ → Float) (j : ℕ) (v : Float) → Row row (till f g j) → j < 18 → v ≡ f j → Row (set row j v) (till f g (j + 1))
+written row f g j v h l e = record {
+  wide = length-set row j v ∙ h .wide;
+  same = λ k b. by (eqb k j)
+      (λ t. rw (eqb-true k j t) (getD-set-same row j v nan (omega (arith, h .wide)) ∙ e ∙ sym (till-below f g (j + 1) j (omega arith))))
+      (λ t.
+      let n : k ≡ j → ⊥ = eqb-false k j t in
+      getD-set-other row j k v nan n ∙ h .same k b ∙ till-next f g j k n);
+}
+
+-- ---- the value and first derivative of a sum
+
+found : (e : Entry) → (cellOf e ≡ none → ⊥) → (valueIn (cellOf e) ≡ e .value) × (firstIn (cellOf e) ≡ e .first)
+unfolding checked
+found e f = by (finite e) (λ t. (simp t, simp t)) (λ t. absurd (f (simp t)))
+
+module _ (ks : List Float) (u : Float) (d i : ℕ) where
+  -- of functions whose values are x and x', and whose first derivatives are y and y'
+  abbrev sum : Float → Float → Float → Float → Entry
+  sum x y x' y' = mixOf (termAt ks i d (ofNat d) u x y) (termAt ks (i + 1) d (ofNat d) u x' y')
+
+  alone : (x y x' y' : Float) → (sum x y x' y' .value ≡ sum x 0· x' 0· .value) × (sum x y x' y' .first ≡ sum x 0· x' 0· .first)
+  unfolding mixOf termAt
+  alone x y x' y' =
+      by (eq (getD ks (i + d) nan ⊖ getD ks i nan) 0·)
+      (λ t. by (eq (getD ks (i + 1 + d) nan ⊖ getD ks (i + 1) nan) 0·) (λ f. (simp (t, f), simp (t, f))) (λ f. (simp (t, f), simp (t, f))))
+      (λ t. by (eq (getD ks (i + 1 + d) nan ⊖ getD ks (i + 1) nan) 0·) (λ f. (simp (t, f), simp (t, f))) (λ f. (simp (t, f), simp (t, f))))
+
+  blended : (a b : Cell) → (blend ks u d i a b ≡ none → ⊥)
+      → (valueIn (blend ks u d i a b) ≡ sum (valueIn a) 0· (valueIn b) 0· .value) × (firstIn (blend ks u d i a b) ≡ sum (valueIn a) 0· (valueIn b) 0· .first)
+  unfolding blend
+  blended none b f = absurd (f refl)
+  blended (cell x y z) none f = absurd (f refl)
+  blended (cell x y z) (cell x' y' z') f =
+      let m = mixed ks u d i x y z x' y' z' in
+      let p = found (sum x y x' y') (λ e. f (sym m ∙ e)) in
+      let q = alone x y x' y' in
+      (ap valueIn (sym m) ∙ p .0 ∙ q .0, ap firstIn (sym m) ∙ p .1 ∙ q .1)
+
+-- ---- the values of degree d raised to degree n, which is d + 1
+
+module _ (ks : List Float) (start p : ℕ) (u : Float) where
+  abbrev pub value : ℕ → ℕ → Float
+  value d k = valueIn (E ks start p u d k)
+
+  abbrev pub slope : ℕ → ℕ → Float
+  slope d k = firstIn (E ks start p u d k)
+
+  abbrev pub term : ℕ → ℕ → List Float → Term
+  term n j row = termAt ks (start + j) n (ofNat n) u (getD row j nan) 0·
+
+  pub begin-row : (row : List Float) → p ≤ 16 → row ≡ replicate 18 0· → Row (set row p 1·) (value 0)
+  begin-row row small e =
+      let c = first ks start p u small in
+      rw e record { wide = c .shape .wide 0 (omega arith); same = λ k l. ap valueIn (c .same k l) }
+
+  pub firsts-begin : (row : List Float) → length row ≡ 18 → Row row (till (slope p) (λ k. getD row k nan) 0)
+  firsts-begin row h = record { wide = h; same = λ k l. sym (till-from (slope p) (λ k. getD row k nan) 0 k (omega arith)) }
+
+  pub firsts-over : p ≤ 16 → (row : List Float) (old : ℕ → Float) (j : ℕ) → p + 1 ≤ j → Row row (till (slope p) old j) → ((k : ℕ) → k ≤ p → getD row k nan ≡ slope p k) × (length row ≡ 18)
+  firsts-over small row old j a h = (λ k l. h .same k (omega arith) ∙ till-below (slope p) old j k (omega arith), h .wide)
+
+  pub term-at-start : (n : ℕ) (row : List Float) (t : Term) → t ≡ termAt ks start n (ofNat n) u (getD row 0 nan) 0· → t ≡ term n 0 row
+  term-at-start n row t e = e ∙ ap (λ (i : ℕ). termAt ks i n (ofNat n) u (getD row 0 nan) 0·) (omega arith)
+
+  module _ (d n : ℕ) (next : n ≡ suc d) (less : n ≤ p) where
+    pub begin : (j : ℕ) (row : List Float) → j + n ≤ p → Row row (value d) → Row row (till (value n) (value d) j)
+    begin j row a h = rw next (respects row (value d) (till (value (suc d)) (value d) j) (λ k. till-begin (value (suc d)) (value d) j k (λ b. ap valueIn (left-same ks start p u d k (omega arith)))) h)
+
+    pub over : (j : ℕ) (row : List Float) → p + 1 ≤ j → Row row (till (value n) (value d) j) → Row row (value n)
+    over j row a h = rw next (respects row (till (value (suc d)) (value d) j) (value (suc d)) (λ k. till-over (value (suc d)) (value d) j k (λ b. ap valueIn (right-same ks start p u d k (omega arith)))) (rw next at h))
+
+    -- the entry e of column j, of its terms a and those of the next column, b
+    module _ (small : p ≤ 16) (unbroken : Unbroken ks u (start + p) p) (j : ℕ) (row : List Float) (a b : Term) (e : Entry) (h : Row row (till (value n) (value d) j)) (low : p ≤ j + n) (high : j < p + 1)
+        (from-a : a ≡ term n j row) (from-b : b ≡ term n (j + 1) row) (from-both : e ≡ mixOf a b) where
+      raised : (value n j ≡ e .value) × (slope n j ≡ e .first)
+      raised =
+          let x : getD row j nan ≡ value d j = h .same j (omega arith) ∙ till-from (value n) (value d) j j (omega arith) in
+          let y : getD row (j + 1) nan ≡ value d (j + 1) = h .same (j + 1) (omega arith) ∙ till-from (value n) (value d) j (j + 1) (omega arith) in
+          let q : start + (j + 1) ≡ start + j + 1 = omega arith in
+          let m : e ≡ sum ks u n (start + j) (value d j) 0· (value d (j + 1)) 0· = from-both ∙ simp (from-a, from-b, x, y, q) in
+          let i : E ks start p u n j ≡ blend ks u n (start + j) (E ks start p u d j) (E ks start p u d (j + 1)) = rw next (inside ks start p u d j (omega arith) (omega arith)) in
+          let s = blended ks u n (start + j) (E ks start p u d j) (E ks start p u d (j + 1)) (λ z. unbroken n (start + j) less (i ∙ z)) in
+          (ap valueIn i ∙ s .0 ∙ ap (λ (e : Entry). e .value) (sym m), ap firstIn i ∙ s .1 ∙ ap (λ (e : Entry). e .first) (sym m))
+
+      pub go : Row (set row j (e .value)) (till (value n) (value d) (j + 1))
+      go = written row (value n) (value d) j (e .value) h (omega arith) (sym (raised .0))
+
+      pub firsts-go : (firsts : List Float) (old : ℕ → Float) → Row firsts (till (slope n) old j) → Row (set firsts j (e .first)) (till (slope n) old (j + 1))
+      firsts-go firsts old f = written firsts (slope n) old j (e .first) f (omega arith) (sym (raised .1))
+
+      pub carried : b ≡ term n (j + 1) (set row j (e .value))
+      carried = from-b ∙ rw (getD-set-other row j (j + 1) (e .value) nan (λ z. omega arith))
+
+-- ---- what a row of degree p shows
+
+-- the number f of a function, which is g of its cell
+module _ (f : Three → Float) (g : Cell → Float) (agree : (x y z : Float) → g (cell x y z) ≡ f (three x y z)) where
+  joined-part : (i : ℕ) (c : Cell) (s : Sample) (xs : List Float) → (c ≡ none → ⊥) → partOf f s ≡ part i xs → partOf f (joined c s) ≡ part i (g c ∷ xs)
+  unfolding partOf joined
+  joined-part i none s xs n e = absurd (n refl)
+  joined-part i (cell x y z) refused xs n e = let z : _≡_ {A = ℕ} 0 1 = cc in absurd (omega arith)
+  joined-part i (cell x y z) (sample k ts) xs n e = cc (agree x y z)
+
+  module _ (ks : List Float) (start p : ℕ) (u : Float) (small : p ≤ 16) (unbroken : Unbroken ks u (start + p) p) (numbers : List Float) (wide : length numbers ≡ 18)
+      (same : (k : ℕ) → k ≤ p → getD numbers k nan ≡ g (E ks start p u p k)) where
+    gathered-part : (k m : ℕ) → k + m ≤ suc p → partOf f (gathered start (row ks u (start + p) p k (start + m))) ≡ part start (take k (drop m numbers))
+    unfolding gathered row partOf
+    gathered-part zero m a = refl
+    gathered-part (suc k) m a =
+        let q : suc (start + m) ≡ start + suc m = omega arith in
+        let t : drop m numbers ≡ g (E ks start p u p m) ∷ drop (suc m) numbers = drop-cons numbers m nan (omega arith) ∙ ap (λ (x : Float). x ∷ drop (suc m) numbers) (same m (omega arith)) in
+        rw t (joined-part start (N ks u (start + p) p (start + m)) _ _ (unbroken p (start + m) (omega arith)) (rw q (gathered-part k (suc m) (omega arith))))
+
+-- ---- the two answers of snap
+
+module _ (a : Axis) (h : refusalOfKnots a ≡ 0) (side : KnotSide) (u : Float) (s : Snapped) (snaps : s ≡ snapped (low a) (high a) u) where
+  pub shows-nothing : (f : Three → Float) → s ≡ Outside → (numbers : List Float) → shownPart (a .degree) (record { found = false; start = 0 }) numbers ≡ partOf f (basisAt a side u)
+  unfolding shownPart partOf basisAt sampleAt
+  shows-nothing f o numbers = simp (sym snaps ∙ o)
+
+  module _ (B : Bounded a) (t : Float) (o : s ≡ At t) (j : ℕ) (e : j ≡ spanAt a side t) where
+    back : spanAt a side t - a .degree + a .degree ≡ spanAt a side t
+    back = omega (arith, bounds a side t j (accepted a h .degree-below) e)
+
+    pub spanned : Unbroken (a .knots) t (j - a .degree + a .degree) (a .degree)
+    spanned = rw (e, back) (axis-unbroken a side u t h B (sym snaps ∙ o))
+
+    pub shows : (f : Three → Float) (g : Cell → Float) → ((x y z : Float) → g (cell x y z) ≡ f (three x y z)) → (numbers : List Float) → length numbers ≡ 18
+        → ((k : ℕ) → k ≤ a .degree → getD numbers k nan ≡ g (E (a .knots) (j - a .degree) (a .degree) t (a .degree) k))
+        → shownPart (a .degree) (record { found = true; start = j - a .degree }) numbers ≡ partOf f (basisAt a side u)
+    unfolding shownPart basisAt sampleAt
+    shows f g agree numbers wide same =
+        let q : spanAt a side t - a .degree + 0 ≡ spanAt a side t - a .degree = omega arith in
+        sym (gathered-part f g agree (a .knots) (j - a .degree) (a .degree) t (accepted a h .degree-most) spanned numbers wide same (suc (a .degree)) 0 (omega arith)) ∙ simp (sym snaps ∙ o, e, back, q)
