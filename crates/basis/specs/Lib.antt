@@ -4,4 +4,5 @@ pub mod Parts
 pub mod Compute
 pub mod BasisLaws
 pub mod Magnitude
+pub mod BoundLaws
 pub mod Examples
