@@ -1,6 +1,6 @@
 -- Raising a row of values in place, and what the row shows. Assumes nothing.
 use mathlib.Core.Path.{_≡_, refl, sym, ap, _∙_}
-use mathlib.Core.Bool.{true, false}
+use mathlib.Core.Bool.{true, false, _&&_, and-eq-true-iff}
 use mathlib.Core.List.{List, _∷_}
 use Prim.Native.Nat.{ℕ, zero, suc, _+_, _-_, _≤_, _<_}
 use native.Mathlib.Omega.{arith}
@@ -10,6 +10,7 @@ use lib.Seq.{getD-set-same, getD-set-other, drop-cons}
 use lib.Ieee.{Float, nan, eq}
 use borrow.Author.Tests.{eqb-true, eqb-false}
 use Rattle.float64.specs.Operators.{_⊖_, 0·, 1·, ofNat}
+use Rattle.float64.specs.Functions.{isFinite}
 use Rattle.spline.specs.Knots.{Axis, low, high, refusalOfKnots, snapped, spanAt}
 use Rattle.spline.specs.KnotLaws.{accepted}
 use Rattle.spline.specs.declared.parameter.KnotSide.{KnotSide}
@@ -19,11 +20,12 @@ use Rattle.basis.specs.BasisLaws.{bounds}
 use Rattle.basis.specs.Magnitude.{Bounded, axis-unbroken}
 use Rattle.basis.specs.declared.Entry.{Entry}
 use Rattle.basis.specs.declared.Term.{Term}
-use Rattle.basis.specs.Basis.{Cell, none, cell, checked, blend, N, row, Three, three, Sample, refused, sample, joined, gathered, sampleAt, basisAt}
-use Rattle.basis.specs.Rows.{cellOf, finite, termAt, mixOf}
+use Rattle.basis.specs.Basis.{Cell, none, cell, checked, blend, N, row as functions, Three, three, Sample, refused, sample, joined, gathered, sampleAt, basisAt}
+use Rattle.basis.specs.Rows.{cellOf, finite, absent, termAt, mixOf}
 use Rattle.basis.specs.Parts.{valueIn, firstIn, part, partOf, shownPart, Row, Unbroken}
-use Rattle.basis.proofs.Rows.{by, till, till-below, till-from, till-begin, till-next, till-over, mixed, E, inside, left-same, right-same}
+use Rattle.basis.proofs.Rows.{by, till, till-below, till-from, till-begin, till-next, till-over, mixed, E, inside, left-of, right-of, left-same, right-same}
 use Rattle.basis.proofs.Gathered.{first}
+use Rattle.basis.proofs.Zeros.{Fine, Alike, Stands, itself, skipped, still-term, rounded-term, alike}
 
 -- ---- a row
 
@@ -42,16 +44,21 @@ written row f g j v h l e = record {
 
 -- ---- the value and first derivative of a sum
 
-found : (e : Entry) → (cellOf e ≡ none → ⊥) → (valueIn (cellOf e) ≡ e .value) × (firstIn (cellOf e) ≡ e .first)
+found : (e : Entry) → (cellOf e ≡ none → ⊥) → Fine e × (valueIn (cellOf e) ≡ e .value) × (firstIn (cellOf e) ≡ e .first)
 unfolding checked
-found e f = by (finite e) (λ t. (simp t, simp t)) (λ t. absurd (f (simp t)))
+found e f =
+    by (finite e)
+    (λ t.
+    let z = and-eq-true-iff (isFinite (e .value)) (isFinite (e .first)) .0 (and-eq-true-iff (isFinite (e .value) && isFinite (e .first)) (isFinite (e .second)) .0 t .0) in
+    ((z .0, z .1), simp t, simp t))
+    (λ t. absurd (f (simp t)))
 
 module _ (ks : List Float) (u : Float) (d i : ℕ) where
   -- of functions whose values are x and x', and whose first derivatives are y and y'
   abbrev sum : Float → Float → Float → Float → Entry
   sum x y x' y' = mixOf (termAt ks i d (ofNat d) u x y) (termAt ks (i + 1) d (ofNat d) u x' y')
 
-  alone : (x y x' y' : Float) → (sum x y x' y' .value ≡ sum x 0· x' 0· .value) × (sum x y x' y' .first ≡ sum x 0· x' 0· .first)
+  alone : (x y x' y' : Float) → Alike (sum x y x' y') (sum x 0· x' 0·)
   unfolding mixOf termAt
   alone x y x' y' =
       by (eq (getD ks (i + d) nan ⊖ getD ks i nan) 0·)
@@ -59,7 +66,7 @@ module _ (ks : List Float) (u : Float) (d i : ℕ) where
       (λ t. by (eq (getD ks (i + 1 + d) nan ⊖ getD ks (i + 1) nan) 0·) (λ f. (simp (t, f), simp (t, f))) (λ f. (simp (t, f), simp (t, f))))
 
   blended : (a b : Cell) → (blend ks u d i a b ≡ none → ⊥)
-      → (valueIn (blend ks u d i a b) ≡ sum (valueIn a) 0· (valueIn b) 0· .value) × (firstIn (blend ks u d i a b) ≡ sum (valueIn a) 0· (valueIn b) 0· .first)
+      → Fine (sum (valueIn a) 0· (valueIn b) 0·) × (valueIn (blend ks u d i a b) ≡ sum (valueIn a) 0· (valueIn b) 0· .value) × (firstIn (blend ks u d i a b) ≡ sum (valueIn a) 0· (valueIn b) 0· .first)
   unfolding blend
   blended none b f = absurd (f refl)
   blended (cell x y z) none f = absurd (f refl)
@@ -67,7 +74,7 @@ module _ (ks : List Float) (u : Float) (d i : ℕ) where
       let m = mixed ks u d i x y z x' y' z' in
       let p = found (sum x y x' y') (λ e. f (sym m ∙ e)) in
       let q = alone x y x' y' in
-      (ap valueIn (sym m) ∙ p .0 ∙ q .0, ap firstIn (sym m) ∙ p .1 ∙ q .1)
+      ((rw (q .0) at (p .0 .0), rw (q .1) at (p .0 .1)), ap valueIn (sym m) ∙ p .1 ∙ q .0, ap firstIn (sym m) ∙ p .2 ∙ q .1)
 
 -- ---- the values of degree d raised to degree n, which is d + 1
 
@@ -89,31 +96,44 @@ module _ (ks : List Float) (start p : ℕ) (u : Float) where
   pub firsts-begin : (row : List Float) → length row ≡ 18 → Row row (till (slope p) (λ k. getD row k nan) 0)
   firsts-begin row h = record { wide = h; same = λ k l. sym (till-from (slope p) (λ k. getD row k nan) 0 k (omega arith)) }
 
-  pub firsts-over : p ≤ 16 → (row : List Float) (old : ℕ → Float) (j : ℕ) → p + 1 ≤ j → Row row (till (slope p) old j) → ((k : ℕ) → k ≤ p → getD row k nan ≡ slope p k) × (length row ≡ 18)
-  firsts-over small row old j a h = (λ k l. h .same k (omega arith) ∙ till-below (slope p) old j k (omega arith), h .wide)
+  skip : (n j : ℕ) (row : List Float) (a : Term) → getD row j nan ≡ 0· → a ≡ absent → Stands (term n j row) a
+  skip n j row a z e = skipped e (rw z (still-term ks (start + j) n (ofNat n) u 0·))
 
-  pub term-at-start : (n : ℕ) (row : List Float) (t : Term) → t ≡ termAt ks start n (ofNat n) u (getD row 0 nan) 0· → t ≡ term n 0 row
-  term-at-start n row t e = e ∙ ap (λ (i : ℕ). termAt ks i n (ofNat n) u (getD row 0 nan) 0·) (omega arith)
+  pub carried : (n j : ℕ) (row : List Float) (v : Float) (b : Term) → b ≡ term n (j + 1) row → Stands (term n (j + 1) (set row j v)) b
+  carried n j row v b e = itself (e ∙ rw (getD-set-other row j (j + 1) v nan (λ z. omega arith)))
 
-  module _ (d n : ℕ) (next : n ≡ suc d) (less : n ≤ p) where
+  module _ (small : p ≤ 16) (d n : ℕ) (next : n ≡ suc d) (less : n ≤ p) where
     pub begin : (j : ℕ) (row : List Float) → j + n ≤ p → Row row (value d) → Row row (till (value n) (value d) j)
     begin j row a h = rw next (respects row (value d) (till (value (suc d)) (value d) j) (λ k. till-begin (value (suc d)) (value d) j k (λ b. ap valueIn (left-same ks start p u d k (omega arith)))) h)
 
-    pub over : (j : ℕ) (row : List Float) → p + 1 ≤ j → Row row (till (value n) (value d) j) → Row row (value n)
-    over j row a h = rw next (respects row (till (value (suc d)) (value d) j) (value (suc d)) (λ k. till-over (value (suc d)) (value d) j k (λ b. ap valueIn (right-same ks start p u d k (omega arith)))) (rw next at h))
+    over : (row : List Float) → Row row (till (value n) (value d) (p + 1)) → Row row (value n)
+    over row h = rw next (respects row (till (value (suc d)) (value d) (p + 1)) (value (suc d)) (λ k. till-over (value (suc d)) (value d) (p + 1) k (λ b. ap valueIn (right-same ks start p u d k (omega arith)))) (rw next at h))
 
-    -- the entry e of column j, of its terms a and those of the next column, b
-    module _ (small : p ≤ 16) (unbroken : Unbroken ks u (start + p) p) (j : ℕ) (row : List Float) (a b : Term) (e : Entry) (h : Row row (till (value n) (value d) j)) (low : p ≤ j + n) (high : j < p + 1)
-        (from-a : a ≡ term n j row) (from-b : b ≡ term n (j + 1) row) (from-both : e ≡ mixOf a b) where
+    firsts-over : (row : List Float) (old : ℕ → Float) → Row row (till (slope n) old (p + 1)) → ((k : ℕ) → k ≤ p → getD row k nan ≡ slope n k) × (length row ≡ 18)
+    firsts-over row old h = (λ k l. h .same k (omega arith) ∙ till-below (slope n) old (p + 1) k (omega arith), h .wide)
+
+    -- the column before the first that is raised, and the one after the last
+    pub skip-first : (j : ℕ) (row : List Float) (a : Term) → j + n ≤ p → Row row (value d) → a ≡ absent → Stands (term n j row) a
+    skip-first j row a l h e = skip n j row a (h .same j (omega arith) ∙ ap valueIn (left-of ks start p u d j (omega arith))) e
+
+    skip-last : (row : List Float) (a : Term) → Row row (till (value n) (value d) p) → a ≡ absent → Stands (term n (p + 1) row) a
+    skip-last row a h e = skip n (p + 1) row a (h .same (p + 1) (omega arith) ∙ till-from (value n) (value d) p (p + 1) (omega arith) ∙ ap valueIn (right-of ks start p u d (p + 1) (omega arith))) e
+
+    -- the entry e of column j, of terms a and b that stand for its own and those of the next column
+    module _ (unbroken : Unbroken ks u (start + p) p) (j : ℕ) (row : List Float) (a b : Term) (e : Entry) (h : Row row (till (value n) (value d) j)) (low : p ≤ j + n) (high : j ≤ p)
+        (from-a : Stands (term n j row) a) (from-b : Stands (term n (j + 1) row) b) (from-both : e ≡ mixOf a b) where
       raised : (value n j ≡ e .value) × (slope n j ≡ e .first)
       raised =
           let x : getD row j nan ≡ value d j = h .same j (omega arith) ∙ till-from (value n) (value d) j j (omega arith) in
           let y : getD row (j + 1) nan ≡ value d (j + 1) = h .same (j + 1) (omega arith) ∙ till-from (value n) (value d) j (j + 1) (omega arith) in
           let q : start + (j + 1) ≡ start + j + 1 = omega arith in
-          let m : e ≡ sum ks u n (start + j) (value d j) 0· (value d (j + 1)) 0· = from-both ∙ simp (from-a, from-b, x, y, q) in
+          let m : mixOf (term n j row) (term n (j + 1) row) ≡ sum ks u n (start + j) (value d j) 0· (value d (j + 1)) 0· = simp (x, y, q) in
           let i : E ks start p u n j ≡ blend ks u n (start + j) (E ks start p u d j) (E ks start p u d (j + 1)) = rw next (inside ks start p u d j (omega arith) (omega arith)) in
           let s = blended ks u n (start + j) (E ks start p u d j) (E ks start p u d (j + 1)) (λ z. unbroken n (start + j) less (i ∙ z)) in
-          (ap valueIn i ∙ s .0 ∙ ap (λ (e : Entry). e .value) (sym m), ap firstIn i ∙ s .1 ∙ ap (λ (e : Entry). e .first) (sym m))
+          let g = alike (term n j row) (term n (j + 1) row) a b (rounded-term ks (start + j) n (ofNat n) u (getD row j nan) 0·) from-a from-b (rw m (s .0)) in (
+            ap valueIn i ∙ s .1 ∙ ap (λ (e : Entry). e .value) (sym m) ∙ g .0 ∙ ap (λ (e : Entry). e .value) (sym from-both),
+            ap firstIn i ∙ s .2 ∙ ap (λ (e : Entry). e .first) (sym m) ∙ g .1 ∙ ap (λ (e : Entry). e .first) (sym from-both),
+          )
 
       pub go : Row (set row j (e .value)) (till (value n) (value d) (j + 1))
       go = written row (value n) (value d) j (e .value) h (omega arith) (sym (raised .0))
@@ -121,8 +141,17 @@ module _ (ks : List Float) (start p : ℕ) (u : Float) where
       pub firsts-go : (firsts : List Float) (old : ℕ → Float) → Row firsts (till (slope n) old j) → Row (set firsts j (e .first)) (till (slope n) old (j + 1))
       firsts-go firsts old f = written firsts (slope n) old j (e .first) f (omega arith) (sym (raised .1))
 
-      pub carried : b ≡ term n (j + 1) (set row j (e .value))
-      carried = from-b ∙ rw (getD-set-other row j (j + 1) (e .value) nan (λ z. omega arith))
+    -- the last column, of its terms and none
+    module _ (unbroken : Unbroken ks u (start + p) p) (j : ℕ) (at-end : j ≡ p) (row : List Float) (a b : Term) (e : Entry) (h : Row row (till (value n) (value d) j))
+        (from-a : Stands (term n j row) a) (from-b : b ≡ absent) (from-both : e ≡ mixOf a b) where
+      abbrev held : Row row (till (value n) (value d) p)
+      held = rw at-end at h
+
+      pub last : Row (set row p (e .value)) (value n)
+      last = over (set row p (e .value)) (go unbroken p row a b e held (omega arith) (omega arith) (rw at-end at from-a) (skip-last row b held from-b) from-both)
+
+      pub firsts-last : (firsts : List Float) (old : ℕ → Float) → Row firsts (till (slope n) old j) → ((k : ℕ) → k ≤ p → getD (set firsts p (e .first)) k nan ≡ slope n k) × (length (set firsts p (e .first)) ≡ 18)
+      firsts-last firsts old f = firsts-over (set firsts p (e .first)) old (firsts-go unbroken p row a b e held (omega arith) (omega arith) (rw at-end at from-a) (skip-last row b held from-b) from-both firsts old (rw at-end at f))
 
 -- ---- what a row of degree p shows
 
@@ -136,8 +165,8 @@ module _ (f : Three → Float) (g : Cell → Float) (agree : (x y z : Float) →
 
   module _ (ks : List Float) (start p : ℕ) (u : Float) (small : p ≤ 16) (unbroken : Unbroken ks u (start + p) p) (numbers : List Float) (wide : length numbers ≡ 18)
       (same : (k : ℕ) → k ≤ p → getD numbers k nan ≡ g (E ks start p u p k)) where
-    gathered-part : (k m : ℕ) → k + m ≤ suc p → partOf f (gathered start (row ks u (start + p) p k (start + m))) ≡ part start (take k (drop m numbers))
-    unfolding gathered row partOf
+    gathered-part : (k m : ℕ) → k + m ≤ suc p → partOf f (gathered start (functions ks u (start + p) p k (start + m))) ≡ part start (take k (drop m numbers))
+    unfolding gathered functions partOf
     gathered-part zero m a = refl
     gathered-part (suc k) m a =
         let q : suc (start + m) ≡ start + suc m = omega arith in

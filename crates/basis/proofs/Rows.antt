@@ -168,12 +168,12 @@ module _ (ks : List Float) (start p : ℕ) (u : Float) where
       let q : start + (j + 1) ≡ suc (start + j) = omega arith in
       simp (le-leb (start + j) (start + p) (omega arith), le-leb (start + p) (start + j + suc d) (omega arith), q)
 
-  left-of : (d j : ℕ) → j + d < p → E d j ≡ zeroCell
+  pub left-of : (d j : ℕ) → j + d < p → E d j ≡ zeroCell
   unfolding N
   left-of zero j h = simp (ne-eqb (start + j) (start + p) (λ e. omega arith))
   left-of (suc d) j h = simp (le-leb (start + j) (start + p) (omega arith), lt-leb (start + p) (start + j + suc d) (omega arith))
 
-  right-of : (d j : ℕ) → p < j → E d j ≡ zeroCell
+  pub right-of : (d j : ℕ) → p < j → E d j ≡ zeroCell
   unfolding N
   right-of zero j h = simp (ne-eqb (start + j) (start + p) (λ e. omega arith))
   right-of (suc d) j h = simp (lt-leb (start + j) (start + p) (omega arith))

@@ -13,7 +13,7 @@ ghost use Prim.Native.Nat.{_+_, _≤_, _<_, suc};
 ghost use lib.ListN.{length};
 ghost use Rattle.spline.specs.Knots.{axis, refusalOfKnots};
 ghost use Rattle.basis.specs.Basis.{N, basisAt, shown};
-ghost use Rattle.basis.specs.Rows.{termAt, mixOf, finite, blank, Columns, Raised, basisOf};
+ghost use Rattle.basis.specs.Rows.{absent, termAt, mixOf, finite, blank, Columns, Raised, basisOf};
 
 // The values, first and second derivatives of the degree + 1 functions from `start` on; nothing of it counts where it is not found.
 pub struct Basis {
@@ -46,6 +46,19 @@ pub(crate) struct Term {
     pub second: f64,
 }
 
+// A term that adds nothing.
+pub(crate) fn absent() -> Term
+    ensures { λ r. ⌜ r ≡ absent ⌝ }
+{
+    Term {
+        present: false,
+        rising: 0.0,
+        falling: 0.0,
+        first: 0.0,
+        second: 0.0,
+    }
+}
+
 // The terms of the function at i in the sums of degree d, which is n as a float. None where its knots leave no width.
 pub(crate) fn term_at(
     knots: &[f64],
@@ -63,13 +76,7 @@ pub(crate) fn term_at(
     let t = knots[i + d];
     let l = t - s;
     if l == 0.0 {
-        return Term {
-            present: false,
-            rising: 0.0,
-            falling: 0.0,
-            first: 0.0,
-            second: 0.0,
-        };
+        return absent();
     }
     Term {
         present: true,

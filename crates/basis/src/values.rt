@@ -1,5 +1,6 @@
 // The values alone, or the values and first derivatives, where no number of the basis can overflow: then nothing of it needs to be tested.
 use crate::Place;
+use crate::absent;
 use crate::mix;
 use crate::term_at;
 use spline::KnotSide;
@@ -14,22 +15,23 @@ ghost use Rattle.basis.specs.Basis.{N, basisAt};
 ghost use Rattle.basis.specs.Parts.{valueOf, firstOf, valueIn, firstIn, partOf, shownPart, Row, Unbroken};
 ghost use Rattle.basis.specs.Magnitude.{Bounded};
 
-// The values of degree d raised in place to degree d + 1.
+// The values of degree d raised in place to degree d + 1. The functions before the first and after the last are 0, and what they would add is left out.
 fn raise_values(knots: &[f64], start: usize, p: usize, d: usize, u: f64, values: &mut [f64; 18])
-    requires { ⌜ (p ≤ 16) × (d < p) × (start + p + d + 2 < length (now knots)) × Unbroken (now knots) u (start + p) p × Row (now values) (λ k. valueIn (N (now knots) u (start + p) d (start + k))) ⌝ }
+    requires { ⌜ (p ≤ 16) × (d < p) × (start + p + d + 1 < length (now knots)) × Unbroken (now knots) u (start + p) p × Row (now values) (λ k. valueIn (N (now knots) u (start + p) d (start + k))) ⌝ }
     ensures { λ _. ⌜ Row (now (values .exit)) (λ k. valueIn (N (now (knots .entry)) u (start + p) (d + 1) (start + k))) ⌝ }
 {
     let next = d + 1;
     let n = next as f64;
-    let from = p - next;
-    let mut a = term_at(knots, start + from, next, n, u, values[from], 0.0);
-    for j in from..p + 1 {
+    let mut a = absent();
+    for j in p - next..p {
         let k = j + 1;
         let b = term_at(knots, start + k, next, n, u, values[k], 0.0);
         let e = mix(a, b);
         values[j] = e.value;
         a = b;
     }
+    let last = mix(a, absent());
+    values[p] = last.value;
 }
 
 // The values of degree `to`, for u in the knot span start + p.
@@ -41,7 +43,7 @@ fn triangle_of_values(
     u: f64,
     values: &mut [f64; 18],
 )
-    requires { ⌜ (p ≤ 16) × (to ≤ p) × (start + p + p + 1 < length (now knots)) × Unbroken (now knots) u (start + p) p × (now values ≡ replicate 18 0·) ⌝ }
+    requires { ⌜ (p ≤ 16) × (to ≤ p) × (start + p + p < length (now knots)) × Unbroken (now knots) u (start + p) p × (now values ≡ replicate 18 0·) ⌝ }
     ensures { λ _. ⌜ Row (now (values .exit)) (λ k. valueIn (N (now (knots .entry)) u (start + p) to (start + k))) ⌝ }
 {
     values[p] = 1.0;
@@ -59,13 +61,13 @@ fn raise_both(
     values: &mut [f64; 18],
     firsts: &mut [f64; 18],
 )
-    requires { ⌜ (1 ≤ p) × (p ≤ 16) × (start + p + p + 1 < length (now knots)) × Unbroken (now knots) u (start + p) p × Row (now values) (λ k. valueIn (N (now knots) u (start + p) (p - 1) (start + k))) × (length (now firsts) ≡ 18) ⌝ }
+    requires { ⌜ (1 ≤ p) × (p ≤ 16) × (start + p + p < length (now knots)) × Unbroken (now knots) u (start + p) p × Row (now values) (λ k. valueIn (N (now knots) u (start + p) (p - 1) (start + k))) × (length (now firsts) ≡ 18) ⌝ }
     ensures { λ _. ⌜ Row (now (values .exit)) (λ k. valueIn (N (now (knots .entry)) u (start + p) p (start + k))) ⌝ }
     ensures { λ _. ⌜ ((k : ℕ) → k ≤ p → getD (now (firsts .exit)) k nan ≡ firstIn (N (now (knots .entry)) u (start + p) p (start + k))) × (length (now (firsts .exit)) ≡ 18) ⌝ }
 {
     let n = p as f64;
-    let mut a = term_at(knots, start, p, n, u, values[0], 0.0);
-    for j in 0..p + 1 {
+    let mut a = absent();
+    for j in 0..p {
         let k = j + 1;
         let b = term_at(knots, start + k, p, n, u, values[k], 0.0);
         let e = mix(a, b);
@@ -73,6 +75,9 @@ fn raise_both(
         firsts[j] = e.first;
         a = b;
     }
+    let last = mix(a, absent());
+    values[p] = last.value;
+    firsts[p] = last.first;
 }
 
 // The values of the functions at a parameter, and where they start.

@@ -1,5 +1,5 @@
 -- The two arms are those of the definition.
-use mathlib.Core.Path.{_≡_}
+use mathlib.Core.Path.{_≡_, _∙_}
 use mathlib.Core.Bool.{true, false}
 use mathlib.Core.List.{List}
 use Prim.Native.Nat.{ℕ, _+_}
@@ -46,17 +46,28 @@ mul-t c = search needs
 shared-slice-read-t : tie.Need-shared-slice-read-t
 shared-slice-read-t c = search needs
 
+absent-requires : tie.Need-absent-requires
+absent-requires c κs = search needs
+
 returns : tie.Need-returns
 returns c =
-    let a = c .before .before .before .args in
-    flat (a .knots .now) (a .i) (a .d) (a .n) (a .u) (a .value) (a .first) (c .if1 .taken)
+    let a = c .before .before .before .before .before .args in
+    c .absent .ensures ∙ flat (a .knots .now) (a .i) (a .d) (a .n) (a .u) (a .value) (a .first) (c .before .if1 .taken)
 
 returns-2 : tie.Need-returns-2
 returns-2 c =
-    let a = c .before .before .before .args in
+    let a = c .before .before .before .before .args in
     steep (a .knots .now) (a .i) (a .d) (a .n) (a .u) (a .value) (a .first) (c .if1 .left)
 
 pub term-at-spec : {M : Type 1} → statement M
 term-at-spec =
     tie.close
-    (tie.spec mul-s shared-slice-read-s add-t mul-t shared-slice-read-t returns returns-2)
+    (tie.spec
+    mul-s
+    shared-slice-read-s
+    add-t
+    mul-t
+    shared-slice-read-t
+    absent-requires
+    returns
+    returns-2)

@@ -1,6 +1,5 @@
 -- Each turn writes a value and a first derivative of the last degree, and carries the terms of the column after it.
-use mathlib.Core.Path.{_≡_}
-use Prim.Native.Nat.{ℕ, _+_, _-_, _^_, _≤_}
+use Prim.Native.Nat.{ℕ, _-_, _^_, _≤_}
 use native.Mathlib.Omega.{arith}
 use lib.Dec.{le→leb}
 use lib.ListN.{getD}
@@ -8,38 +7,35 @@ use lib.Ieee.{nan, inFloat, ofInt}
 use Rattle.float64.specs.Operators.{ofNat}
 use Rattle.basis.specs.Parts.{Row}
 use Rattle.basis.proofs.Rows.{till}
-use Rattle.basis.proofs.Parts.{value, slope, term, begin, firsts-begin, go, firsts-go, carried, over, firsts-over, term-at-start}
+use Rattle.basis.proofs.Zeros.{Stands, itself}
+use Rattle.basis.proofs.Parts.{value, slope, term, begin, firsts-begin, skip-first, go, firsts-go, carried, last, firsts-last}
 use borrow.Author.Needs.{needs}
 use Rattle.basis.proofs.values.raise_both.Statement.{statement}
 use Rattle.basis.proofs.values.raise_both.Tie as tie
 
 abbrev Inv-loop : tie.InvT-loop
-Inv-loop knots start p u values₀ firsts₀ n a₀ j₀ j-end values firsts a j =
-    (j ≤ p + 1) × Row values (till (value knots start p u p) (value knots start p u (p - 1)) j)
-    × Row firsts (till (slope knots start p u p) (λ (k : ℕ). getD firsts₀ k nan) j)
-    × (a ≡ term knots start p u p j values)
+Inv-loop knots start p u values₀ firsts₀ n a₀ j₀ values firsts a j =
+    (j ≤ p) × Row values (till (value knots start p u p) (value knots start p u (p - 1)) j) × Row firsts (till (slope knots start p u p) (λ (k : ℕ). getD firsts₀ k nan) j)
+    × Stands (term knots start p u p j values) a
 
 abbrev μ-loop : tie.MeasureT-loop
-μ-loop knots start p u values₀ firsts₀ n a₀ j₀ j-end values firsts a j = p + 1 - j
+μ-loop knots start p u values₀ firsts₀ n a₀ j₀ values firsts a j = p - j
 
 int-to-float-n : tie.Need-int-to-float-n Inv-loop μ-loop
 unfolding inFloat
 int-to-float-n c = le→leb (c .before .before .args .p) (2 ^ 53) (omega arith)
 
-element-copy-out-term-at : tie.Need-element-copy-out-term-at Inv-loop μ-loop
-element-copy-out-term-at c = search needs
-
-term-at-requires : tie.Need-term-at-requires Inv-loop μ-loop
-term-at-requires c κs = search needs
-
-add-j-end : tie.Need-add-j-end Inv-loop μ-loop
-add-j-end c = search needs
+absent-requires : tie.Need-absent-requires Inv-loop μ-loop
+absent-requires c κs = search needs
 
 loop-holds : tie.Need-loop-holds Inv-loop μ-loop
-unfolding ofInt ofNat
 loop-holds c =
-    let at = c .before .before .before .before in
-    (omega arith, begin _ _ _ _ _ _ (omega arith) (omega arith) _ _ (omega arith) (at .pre .4), firsts-begin _ _ _ _ _ (at .pre .5), term-at-start _ _ (at .args .p) _ _ (at .args .values .now) _ (c .term-at .ensures))
+    let at = c .before .before .before in (
+      omega arith,
+      begin _ _ _ _ (at .pre .1) _ _ (omega arith) (omega arith) _ _ (omega arith) (at .pre .4),
+      firsts-begin _ _ _ _ _ (at .pre .5),
+      skip-first _ _ _ _ (at .pre .1) _ _ (omega arith) (omega arith) _ _ _ (omega arith) (at .pre .4) (c .absent .ensures),
+    )
 
 add-k : tie.Need-add-k Inv-loop μ-loop
 add-k c = search needs
@@ -50,11 +46,11 @@ add-term-at c = search needs
 mul-term-at : tie.Need-mul-term-at Inv-loop μ-loop
 mul-term-at c = search needs
 
-element-copy-out-term-at-2 : tie.Need-element-copy-out-term-at-2 Inv-loop μ-loop
-element-copy-out-term-at-2 c = search needs
+element-copy-out-term-at : tie.Need-element-copy-out-term-at Inv-loop μ-loop
+element-copy-out-term-at c = search needs
 
-term-at-requires-2 : tie.Need-term-at-requires-2 Inv-loop μ-loop
-term-at-requires-2 c κs = search needs
+term-at-requires : tie.Need-term-at-requires Inv-loop μ-loop
+term-at-requires c κs = search needs
 
 mix-requires : tie.Need-mix-requires Inv-loop μ-loop
 mix-requires c κs = search needs
@@ -81,18 +77,39 @@ loop-again : tie.Need-loop-again Inv-loop μ-loop
 unfolding ofInt ofNat
 loop-again c =
     let at = c .before .before .before .before in
-    let start = at .before .before .before .before .before in
-    let b = c .before .term-at2 .ensures in (
+    let start = at .before .before .before .before in
+    let b = c .before .term-at .ensures in (
       omega arith,
-      go _ _ _ _ _ _ (omega arith) (omega arith) (start .pre .1) (start .pre .3) _ _ _ _ _ (at .loop .inv .1) (omega arith) (omega arith) (at .loop .inv .3) b (c .mix .ensures),
-      firsts-go _ _ _ _ _ _ (omega arith) (omega arith) (start .pre .1) (start .pre .3) _ _ _ _ _ (at .loop .inv .1) (omega arith) (omega arith) (at .loop .inv .3) b (c .mix .ensures) _ _ (at .loop .inv .2),
-      carried _ _ _ _ _ _ (omega arith) (omega arith) (start .pre .1) (start .pre .3) _ _ _ _ _ (at .loop .inv .1) (omega arith) (omega arith) (at .loop .inv .3) b (c .mix .ensures),
+      go _ _ _ _ (start .pre .1) _ _ (omega arith) (omega arith) (start .pre .3) _ _ _ _ _ (at .loop .inv .1) (omega arith) (omega arith) (at .loop .inv .3) (itself b) (c .mix .ensures),
+      firsts-go _ _ _ _ (start .pre .1) _ _ (omega arith) (omega arith) (start .pre .3) _ _ _ _ _ (at .loop .inv .1) (omega arith) (omega arith) (at .loop .inv .3) (itself b) (c .mix .ensures) _ _ (at .loop .inv .2),
+      carried _ _ (start .args .p) _ _ _ (at .loop .values) (c .mix .result .value) _ b,
     )
+
+absent-requires-2 : tie.Need-absent-requires-2 Inv-loop μ-loop
+absent-requires-2 c κs = search needs
+
+mix-requires-2 : tie.Need-mix-requires-2 Inv-loop μ-loop
+mix-requires-2 c κs = search needs
+
+mul-values-2 : tie.Need-mul-values-2 Inv-loop μ-loop
+mul-values-2 c = search needs
+
+element-write-values-2 : tie.Need-element-write-values-2 Inv-loop μ-loop
+element-write-values-2 c = search needs
+
+mul-firsts-2 : tie.Need-mul-firsts-2 Inv-loop μ-loop
+mul-firsts-2 c = search needs
+
+element-write-firsts-2 : tie.Need-element-write-firsts-2 Inv-loop μ-loop
+element-write-firsts-2 c = search needs
 
 returns : tie.Need-returns Inv-loop μ-loop
 returns c =
-    let at = c .before in
-    (over _ _ _ _ _ _ (omega arith) (omega arith) _ _ (omega arith) (at .loop .inv .1), firsts-over _ _ _ _ (at .before .before .before .before .before .pre .1) _ _ _ (omega arith) (at .loop .inv .2))
+    let at = c .before .before .before in
+    let start = at .before .before .before .before in (
+      last _ _ _ _ (start .pre .1) _ _ (omega arith) (omega arith) (start .pre .3) _ (omega arith) _ _ _ _ (at .loop .inv .1) (at .loop .inv .3) (c .before .absent2 .ensures) (c .mix2 .ensures),
+      firsts-last _ _ _ _ (start .pre .1) _ _ (omega arith) (omega arith) (start .pre .3) _ (omega arith) _ _ _ _ (at .loop .inv .1) (at .loop .inv .3) (c .before .absent2 .ensures) (c .mix2 .ensures) _ _ (at .loop .inv .2),
+    )
 
 pub raise-both-spec : {M : Type 1} → statement M
 raise-both-spec =
@@ -101,15 +118,13 @@ raise-both-spec =
     Inv-loop
     μ-loop
     int-to-float-n
-    element-copy-out-term-at
-    term-at-requires
-    add-j-end
+    absent-requires
     loop-holds
     add-k
     add-term-at
     mul-term-at
-    element-copy-out-term-at-2
-    term-at-requires-2
+    element-copy-out-term-at
+    term-at-requires
     mix-requires
     mul-values
     element-write-values
@@ -118,4 +133,10 @@ raise-both-spec =
     add-j
     loop-less
     loop-again
+    absent-requires-2
+    mix-requires-2
+    mul-values-2
+    element-write-values-2
+    mul-firsts-2
+    element-write-firsts-2
     returns)

@@ -1,5 +1,4 @@
 -- Each turn writes a value of the next degree, and carries the terms of the column after it.
-use mathlib.Core.Path.{_≡_}
 use Prim.Native.Nat.{_+_, _-_, _^_, _≤_}
 use native.Mathlib.Numerals.{add-one}
 use native.Mathlib.Omega.{arith}
@@ -8,17 +7,18 @@ use lib.Ieee.{inFloat, ofInt}
 use Rattle.float64.specs.Operators.{ofNat}
 use Rattle.basis.specs.Parts.{Row}
 use Rattle.basis.proofs.Rows.{till}
-use Rattle.basis.proofs.Parts.{value, term, begin, go, carried, over}
+use Rattle.basis.proofs.Zeros.{Stands, itself}
+use Rattle.basis.proofs.Parts.{value, term, begin, skip-first, go, carried, last}
 use borrow.Author.Needs.{needs}
 use Rattle.basis.proofs.values.raise_values.Statement.{statement}
 use Rattle.basis.proofs.values.raise_values.Tie as tie
 
 abbrev Inv-loop : tie.InvT-loop
-Inv-loop knots start p d u values₀ next n from a₀ j₀ j-end values a j =
-    (p - (d + 1) ≤ j) × (j ≤ p + 1) × Row values (till (value knots start p u (d + 1)) (value knots start p u d) j) × (a ≡ term knots start p u (d + 1) j values)
+Inv-loop knots start p d u values₀ next n a₀ j₀ values a j =
+    (p - (d + 1) ≤ j) × (j ≤ p) × Row values (till (value knots start p u (d + 1)) (value knots start p u d) j) × Stands (term knots start p u (d + 1) j values) a
 
 abbrev μ-loop : tie.MeasureT-loop
-μ-loop knots start p d u values₀ next n from a₀ j₀ j-end values a j = p + 1 - j
+μ-loop knots start p d u values₀ next n a₀ j₀ values a j = p - j
 
 add-next : tie.Need-add-next Inv-loop μ-loop
 add-next c = search needs
@@ -27,8 +27,23 @@ int-to-float-n : tie.Need-int-to-float-n Inv-loop μ-loop
 unfolding inFloat
 int-to-float-n c = le→leb (c .before .before .args .d + 1) (2 ^ 53) (omega arith)
 
-sub-from : tie.Need-sub-from Inv-loop μ-loop
-sub-from c = search needs
+absent-requires : tie.Need-absent-requires Inv-loop μ-loop
+absent-requires c κs = search needs
+
+sub-j : tie.Need-sub-j Inv-loop μ-loop
+sub-j c = search needs
+
+loop-holds : tie.Need-loop-holds Inv-loop μ-loop
+loop-holds c =
+    let at = c .before .before .before in (
+      omega arith,
+      omega arith,
+      begin _ _ _ _ (at .pre .0) _ _ (add-one _) (omega arith) _ _ (omega arith) (at .pre .4),
+      skip-first _ _ _ _ (at .pre .0) _ _ (add-one _) (omega arith) _ _ _ (omega arith) (at .pre .4) (c .absent .ensures),
+    )
+
+add-k : tie.Need-add-k Inv-loop μ-loop
+add-k c = search needs
 
 add-term-at : tie.Need-add-term-at Inv-loop μ-loop
 add-term-at c = search needs
@@ -41,30 +56,6 @@ element-copy-out-term-at c = search needs
 
 term-at-requires : tie.Need-term-at-requires Inv-loop μ-loop
 term-at-requires c κs = search needs
-
-add-j-end : tie.Need-add-j-end Inv-loop μ-loop
-add-j-end c = search needs
-
-loop-holds : tie.Need-loop-holds Inv-loop μ-loop
-unfolding ofInt ofNat
-loop-holds c =
-    let at = c .before .before .before .before in
-    (omega arith, omega arith, begin _ _ _ _ _ _ (add-one _) (omega arith) _ _ (omega arith) (at .pre .4), c .term-at .ensures)
-
-add-k : tie.Need-add-k Inv-loop μ-loop
-add-k c = search needs
-
-add-term-at-2 : tie.Need-add-term-at-2 Inv-loop μ-loop
-add-term-at-2 c = search needs
-
-mul-term-at-2 : tie.Need-mul-term-at-2 Inv-loop μ-loop
-mul-term-at-2 c = search needs
-
-element-copy-out-term-at-2 : tie.Need-element-copy-out-term-at-2 Inv-loop μ-loop
-element-copy-out-term-at-2 c = search needs
-
-term-at-requires-2 : tie.Need-term-at-requires-2 Inv-loop μ-loop
-term-at-requires-2 c κs = search needs
 
 mix-requires : tie.Need-mix-requires Inv-loop μ-loop
 mix-requires c κs = search needs
@@ -85,18 +76,31 @@ loop-again : tie.Need-loop-again Inv-loop μ-loop
 unfolding ofInt ofNat
 loop-again c =
     let at = c .before .before .before .before in
-    let start = at .before .before .before .before .before in
-    let b = c .before .term-at2 .ensures in (
+    let start = at .before .before .before .before in
+    let b = c .before .term-at .ensures in (
       omega arith,
       omega arith,
-      go _ _ _ _ _ _ (add-one _) (omega arith) (start .pre .0) (start .pre .3) _ _ _ _ _ (at .loop .inv .2) (omega arith) (omega arith) (at .loop .inv .3) b (c .mix .ensures),
-      carried _ _ _ _ _ _ (add-one _) (omega arith) (start .pre .0) (start .pre .3) _ _ _ _ _ (at .loop .inv .2) (omega arith) (omega arith) (at .loop .inv .3) b (c .mix .ensures),
+      go _ _ _ _ (start .pre .0) _ _ (add-one _) (omega arith) (start .pre .3) _ _ _ _ _ (at .loop .inv .2) (omega arith) (omega arith) (at .loop .inv .3) (itself b) (c .mix .ensures),
+      carried _ _ (start .args .p) _ _ _ (at .loop .values) (c .mix .result .value) _ b,
     )
+
+absent-requires-2 : tie.Need-absent-requires-2 Inv-loop μ-loop
+absent-requires-2 c κs = search needs
+
+mix-requires-2 : tie.Need-mix-requires-2 Inv-loop μ-loop
+mix-requires-2 c κs = search needs
+
+mul-values-2 : tie.Need-mul-values-2 Inv-loop μ-loop
+mul-values-2 c = search needs
+
+element-write-values-2 : tie.Need-element-write-values-2 Inv-loop μ-loop
+element-write-values-2 c = search needs
 
 returns : tie.Need-returns Inv-loop μ-loop
 returns c =
-    let at = c .before in
-    over _ _ _ _ _ _ (add-one _) (omega arith) _ _ (omega arith) (at .loop .inv .2)
+    let at = c .before .before .before in
+    let start = at .before .before .before .before in
+    last _ _ _ _ (start .pre .0) _ _ (add-one _) (omega arith) (start .pre .3) _ (omega arith) _ _ _ _ (at .loop .inv .2) (at .loop .inv .3) (c .before .absent2 .ensures) (c .mix2 .ensures)
 
 pub raise-values-spec : {M : Type 1} → statement M
 raise-values-spec =
@@ -106,22 +110,22 @@ raise-values-spec =
     μ-loop
     add-next
     int-to-float-n
-    sub-from
+    absent-requires
+    sub-j
+    loop-holds
+    add-k
     add-term-at
     mul-term-at
     element-copy-out-term-at
     term-at-requires
-    add-j-end
-    loop-holds
-    add-k
-    add-term-at-2
-    mul-term-at-2
-    element-copy-out-term-at-2
-    term-at-requires-2
     mix-requires
     mul-values
     element-write-values
     add-j
     loop-less
     loop-again
+    absent-requires-2
+    mix-requires-2
+    mul-values-2
+    element-write-values-2
     returns)
