@@ -7,7 +7,7 @@ use crate::calls::{Point, Search, Surface, price};
 use crate::row::walk;
 use crate::small::{Axis, KnotSide, distance, knots};
 
-fn times(r: &mut Random, count: usize, case: impl Fn(&mut Random) -> Case) -> Vec<Case> {
+pub fn times(r: &mut Random, count: usize, case: impl Fn(&mut Random) -> Case) -> Vec<Case> {
     (0..count).map(|_| case(r)).collect()
 }
 
@@ -152,7 +152,7 @@ pub fn small_inversion(r: &mut Random) -> Inversion {
     inversion_on(r, surface)
 }
 
-fn inversion_on(r: &mut Random, surface: Surface) -> Inversion {
+pub fn inversion_on(r: &mut Random, surface: Surface) -> Inversion {
     let ground = Ground::new(surface);
     let mark = ground.mark(r);
     let search = ground.search(r, mark);
@@ -181,7 +181,12 @@ pub fn plane(r: &mut Random) -> Case {
 }
 
 pub fn derivative(r: &mut Random) -> Case {
-    let ground = Ground::new(surface(r));
+    let surface = surface(r);
+    derivative_on(r, surface)
+}
+
+pub fn derivative_on(r: &mut Random, surface: Surface) -> Case {
+    let ground = Ground::new(surface);
     let uv = if r.percent(70) {
         ground.inside(r)
     } else {
@@ -192,7 +197,12 @@ pub fn derivative(r: &mut Random) -> Case {
 }
 
 pub fn singular(r: &mut Random) -> Case {
-    let surface = singular_edges(r);
+    let surface = surface(r);
+    singular_on(r, surface)
+}
+
+pub fn singular_on(r: &mut Random, surface: Surface) -> Case {
+    let surface = singular_edges(r, surface);
     let tolerance = match r.below(100) {
         0..40 => half_edge(r, &surface),
         40..92 => r.pick(&[0., 0., -0., 0.5, 1., 1e-9, 0.125, f64::MAX]),
@@ -217,7 +227,12 @@ fn half_edge(r: &mut Random, surface: &Surface) -> f64 {
 }
 
 pub fn row(r: &mut Random) -> Row {
-    let ground = Ground::new(if r.percent(75) { small(r) } else { surface(r) });
+    let surface = if r.percent(75) { small(r) } else { surface(r) };
+    row_on(r, surface)
+}
+
+pub fn row_on(r: &mut Random, surface: Surface) -> Row {
+    let ground = Ground::new(surface);
     let marks = marks(r, &ground);
     let mark = ground.mark(r);
     let mut search = ground.search(r, mark);

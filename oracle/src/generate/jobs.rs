@@ -26,6 +26,10 @@ fn well_formed(r: &mut Random) -> Job {
     if r.percent(12) {
         fault(r, &mut surface);
     }
+    job_on(r, surface)
+}
+
+pub fn job_on(r: &mut Random, surface: Surface) -> Job {
     let ground = Ground::new(surface);
     let mut marks = marks(r, &ground);
     marks.truncate(marks.len() / 3 * 3);

@@ -45,8 +45,7 @@ pub fn small(r: &mut Random) -> Surface {
 }
 
 /// A surface whose edges are often collapsed.
-pub fn singular_edges(r: &mut Random) -> Surface {
-    let mut surface = surface(r);
+pub fn singular_edges(r: &mut Random, mut surface: Surface) -> Surface {
     let [nu, nv] = surface.shape;
     let net = surface.controls.as_chunks_mut::<3>().0;
     if r.percent(40) && nu > 0 && nu.checked_mul(nv) == Some(net.len()) {
@@ -67,7 +66,7 @@ fn with_axes(r: &mut Random, [u, v]: [Axis; 2]) -> Surface {
     }
 }
 
-fn flags(r: &mut Random) -> [bool; 2] {
+pub fn flags(r: &mut Random) -> [bool; 2] {
     if r.percent(55) {
         [false; 2]
     } else {
@@ -195,7 +194,7 @@ fn controls(r: &mut Random, shape: [usize; 2]) -> Vec<f64> {
 }
 
 /// Control points of one style, u slowest.
-fn net(r: &mut Random, shape: [usize; 2]) -> Vec<[f64; 3]> {
+pub fn net(r: &mut Random, shape: [usize; 2]) -> Vec<[f64; 3]> {
     let place = [r.eighth(), r.eighth(), r.eighth()];
     let lean = r.pick(&[1e-7, 3e-8, 1e-8, 1e-6, 1e-12, 0.]);
     let narrow = r.pick(&[1e-12, 1.1e-12, 9e-13, 3e-12, 1e-11, 1e-6]);
