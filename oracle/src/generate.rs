@@ -1,5 +1,6 @@
 //! Inputs of every kind, fixed by a seed.
 mod arguments;
+mod brink;
 mod cases;
 mod jobs;
 mod random;
@@ -9,6 +10,7 @@ mod traps;
 use crate::calls::{Pair, Point, Search, Surface};
 use crate::small::{Axis, KnotSide};
 
+pub use brink::brinks;
 pub use cases::{derivative, evaluate, inversion, plane, row, singular, small_inversion};
 pub use jobs::job;
 pub use random::Random;
@@ -62,7 +64,8 @@ pub struct Set {
     pub cases: fn(&mut Random) -> Vec<Case>,
 }
 
-/// The sets; the cases that TRAPS.md lists come first in each.
+/// The sets; the cases that TRAPS.md lists come first in each, those at the brink of a limit
+/// last, from a stream apart, so that what is drawn after them stays as it is.
 pub const SETS: [Set; 6] = [
     Set {
         name: "spline",
@@ -74,15 +77,29 @@ pub const SETS: [Set; 6] = [
     },
     Set {
         name: "inversion",
-        cases: |r| [traps::inversion(), cases::inversions(r)].concat(),
+        cases: |r| {
+            [
+                traps::inversion(),
+                cases::inversions(r),
+                brink::inversions(&mut r.apart()),
+            ]
+            .concat()
+        },
     },
     Set {
         name: "calls",
-        cases: |r| [traps::calls(), cases::calls(r)].concat(),
+        cases: |r| {
+            [
+                traps::calls(),
+                cases::calls(r),
+                brink::calls(&mut r.apart()),
+            ]
+            .concat()
+        },
     },
     Set {
         name: "row",
-        cases: |r| [traps::row(), cases::rows(r)].concat(),
+        cases: |r| [traps::row(), cases::rows(r), brink::rows(&mut r.apart())].concat(),
     },
     Set {
         name: "job",

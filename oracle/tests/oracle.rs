@@ -1,11 +1,11 @@
 use oracle::answers::{KINDS, records};
 use oracle::calls::{Shell, Surface, invert, price};
 use oracle::figures;
-use oracle::generate::{Random, SETS, inversion, row};
+use oracle::generate::{Case, Random, SETS, brinks, inversion, row};
 use oracle::job::{Job, MOST_BYTES, print};
 use oracle::refusals::Refusal;
 use oracle::replay::differing;
-use std::collections::BTreeMap;
+use std::collections::{BTreeMap, BTreeSet};
 
 const SEED: u64 = 20_261_115;
 
@@ -150,6 +150,57 @@ fn rows_are_chains_of_inversions() {
             assert!(ended.refused.is_some_and(|(_, index)| index == 0));
         }
     }
+}
+
+/// Largest knot, largest coordinate, narrowest span, least weight over the largest.
+fn sizes(surface: &Surface) -> [f64; 4] {
+    let most = |numbers: &[f64]| numbers.iter().fold(0_f64, |most, x| most.max(x.abs()));
+    let least = |numbers: &[f64]| numbers.iter().copied().fold(f64::INFINITY, f64::min);
+    let pairs = surface.knots.iter().flat_map(|knots| knots.windows(2));
+    let widths: Vec<f64> = pairs.map(|pair| pair[1] - pair[0]).collect();
+    let spans: Vec<f64> = widths.into_iter().filter(|&width| width > 0.).collect();
+    [
+        most(&surface.knots.concat()),
+        most(&surface.controls),
+        least(&spans),
+        least(&surface.weights) / most(&surface.weights),
+    ]
+}
+
+/// Each limit is met, and passed by an ulp; enough inversions are placed, and refused.
+#[test]
+fn brinks_lie_on_both_sides_of_each_limit() {
+    let mut random = Random::new(3);
+    let mut met = BTreeSet::new();
+    let mut numbers = BTreeMap::<u64, usize>::new();
+    let count = 1000;
+    for case in (0..count).flat_map(|_| brinks(&mut random)) {
+        if let Case::Invert(case) = case {
+            met.extend(
+                sizes(&case.surface)
+                    .map(f64::to_bits)
+                    .into_iter()
+                    .enumerate(),
+            );
+            let spent = invert(&case.surface, case.mark, &case.search, case.budget);
+            let number = spent.answer.err().map_or(0, |refusal| refusal.number());
+            *numbers.entry(number).or_default() += 1;
+        }
+    }
+    for (place, exponent) in [900, 100, -64, -62].into_iter().enumerate() {
+        let limit = 2_f64.powi(exponent);
+        let [inside, outside] = if exponent > 0 {
+            [limit / 2., limit.next_up()]
+        } else {
+            [limit * 2., limit.next_down()]
+        };
+        for size in [inside, limit, outside] {
+            assert!(met.contains(&(place, size.to_bits())), "{size:e}");
+        }
+    }
+    let [placed, refused] = [0, Refusal::Evaluation.number()].map(|number| numbers[&number]);
+    assert!(placed > 3 * count / 20, "{placed} placed");
+    assert!(refused > 3 * count / 20, "{refused} refused");
 }
 
 #[test]

@@ -8,6 +8,11 @@ impl Random {
         Self(seed)
     }
 
+    /// Another stream; drawing from it leaves this one where it is.
+    pub fn apart(&self) -> Self {
+        Self(!self.0)
+    }
+
     pub fn word(&mut self) -> u64 {
         self.0 = self.0.wrapping_add(0x9e37_79b9_7f4a_7c15);
         let z = (self.0 ^ (self.0 >> 30)).wrapping_mul(0xbf58_476d_1ce4_e5b9);
