@@ -18,7 +18,7 @@ struct Kind {
     draw: fn(&mut Random) -> Vec<Case>,
 }
 
-const KINDS: [Kind; 9] = [
+const KINDS: [Kind; 10] = [
     Kind {
         name: "sets",
         draw: |r| SETS.iter().flat_map(|set| (set.cases)(r)).collect(),
@@ -54,6 +54,10 @@ const KINDS: [Kind; 9] = [
     Kind {
         name: "jobs",
         draw: |r| vec![Case::Job(generate::job(r))],
+    },
+    Kind {
+        name: "brinks",
+        draw: generate::brinks,
     },
 ];
 
