@@ -66,6 +66,14 @@ pub fn bumpy(degree: usize, controls: usize) -> Surface {
     }
 }
 
+/// The surface with its coordinates multiplied.
+pub fn scaled(surface: &Surface, factor: f64) -> Surface {
+    Surface {
+        controls: surface.controls.iter().map(|x| x * factor).collect(),
+        ..surface.clone()
+    }
+}
+
 pub fn lent(surface: &Surface) -> Lent<'_> {
     Lent {
         degrees: surface.degrees,

@@ -5,7 +5,7 @@
 #[path = "../sisl.rs"]
 mod sisl;
 
-use bench::cases::{TOLERANCE, along, built, bumpy, lent, on, placed, search};
+use bench::cases::{TOLERANCE, along, built, bumpy, lent, on, placed, scaled, search};
 use bench::{compare, heading};
 use oracle::calls::{Point, Search, Surface};
 use oracle::row;
@@ -14,13 +14,19 @@ use placing::raw;
 fn main() {
     let square = Surface::square();
     let twelve = bumpy(3, 12);
+    let sixteen = bumpy(16, 25);
+    // Beyond the bound on coordinates under which second derivatives may be left out.
+    let huge = scaled(&twelve, 2f64.powi(101));
     heading("Rust");
     firsts("Square", &square, 100);
     firsts("bicubic, 12 by 12", &twelve, 10);
     firsts("bicubic, 48 distinct knots", &bumpy(3, 50), 1);
     firsts("degree 5, 12 by 12", &bumpy(5, 12), 10);
+    firsts("degree 16, 25 by 25", &sixteen, 2);
+    firsts("bicubic, 12 by 12, at 2^101", &huge, 10);
     hinted("Square", &square);
     hinted("bicubic, 12 by 12", &twelve);
+    hinted("degree 16, 25 by 25", &sixteen);
     rows("bicubic, 12 by 12", &twelve);
     #[cfg(sisl)]
     beside_sisl("bicubic, 12 by 12", &twelve);
