@@ -1,6 +1,6 @@
-//! Surfaces at the brink of the sizes up to which the port leaves out sums of second
-//! derivatives, and calls on them. The source knows no such sizes, so an answer may not
-//! depend on the side that a surface is on.
+//! Surfaces at the brink of the sizes up to which no second derivative can overflow, and
+//! calls on them. Up to there the port may leave out second derivatives; the source knows no
+//! such sizes, so answers may not depend on the side that a surface is on.
 use super::Case;
 use super::cases::{derivative_on, inversion_on, row_on, singular_on, times};
 use super::jobs::job_on;
