@@ -9,10 +9,12 @@ pub use search::nearest;
 use search::shift;
 use search::sound;
 pub use search::sound_terms;
+use surface::Scaling;
 use surface::Shape;
 use vector3::Vector3;
 ghost use mathlib.Core.Path.{_≡_};
-ghost use Rattle.surface.specs.Surface.{surface, refusalOfSurface};
+ghost use Rattle.surface.specs.Surface.{surface};
+ghost use Rattle.surface.specs.Scaled.{Scaled};
 ghost use Rattle.chart.specs.Chart.{soundSearch, turned, outcome, searched};
 
 // The period of a chart's axis, which the surface's own flag says nothing of.
@@ -34,7 +36,7 @@ pub fn invert_checked(
     kv: &[f64],
     controls: &[f64],
     weights: &[f64],
-    scale: f64,
+    scale: Scaling,
     mark: Vector3,
     hint: Hint,
     tolerance: f64,
@@ -42,8 +44,8 @@ pub fn invert_checked(
     pv: Period,
     budget: u64,
 ) -> Placing
-    requires { ⌜ refusalOfSurface (surface shape (now ku) (now kv) (now controls) (now weights)) ≡ 0 ⌝ }
-    ensures { λ r. ⌜ r ≡ searched (surface shape (now (ku .entry)) (now (kv .entry)) (now (controls .entry)) (now (weights .entry))) scale mark hint tolerance pu pv budget (soundSearch mark hint tolerance pu pv) ⌝ }
+    requires { ⌜ Scaled (surface shape (now ku) (now kv) (now controls) (now weights)) scale ⌝ }
+    ensures { λ r. ⌜ r ≡ searched (surface shape (now (ku .entry)) (now (kv .entry)) (now (controls .entry)) (now (weights .entry))) (scale .largest) mark hint tolerance pu pv budget (soundSearch mark hint tolerance pu pv) ⌝ }
 {
     if !sound(mark, hint, tolerance, pu, pv) {
         return Placing::Refusal(7, 0);

@@ -7,13 +7,15 @@ use newton::Interval;
 use seeds::axis_values;
 use seeds::walk;
 use surface::Counts;
+use surface::Scaling;
 use surface::Shape;
 use vector3::Vector3;
 ghost use mathlib.Core.Path.{_≡_};
 ghost use Prim.Native.Nat.{_≤_};
 ghost use Rattle.vector3.specs.Laws.{Finite};
 ghost use Rattle.spline.specs.Knots.{axis, refusalOfKnots};
-ghost use Rattle.surface.specs.Surface.{surface, refusalOfSurface};
+ghost use Rattle.surface.specs.Surface.{surface};
+ghost use Rattle.surface.specs.Scaled.{Scaled};
 ghost use Rattle.inversion.specs.Inversion.{spend};
 ghost use Rattle.inversion.specs.Search.{intervalOf, exploration};
 
@@ -50,13 +52,13 @@ pub(crate) fn explore(
     kv: &[f64],
     controls: &[f64],
     weights: &[f64],
-    scale: f64,
+    scale: Scaling,
     mark: Vector3,
     lead: Lead,
     budget: u64,
 ) -> Inverted
-    requires { ⌜ (refusalOfSurface (surface shape (now ku) (now kv) (now controls) (now weights)) ≡ 0) × Finite mark × (lead .1 ≤ budget) ⌝ }
-    ensures { λ r. ⌜ r ≡ spend budget (exploration (surface shape (now (ku .entry)) (now (kv .entry)) (now (controls .entry)) (now (weights .entry))) scale mark (lead .0) (lead .1)) ⌝ }
+    requires { ⌜ Scaled (surface shape (now ku) (now kv) (now controls) (now weights)) scale × Finite mark × (lead .1 ≤ budget) ⌝ }
+    ensures { λ r. ⌜ r ≡ spend budget (exploration (surface shape (now (ku .entry)) (now (kv .entry)) (now (controls .entry)) (now (weights .entry))) (scale .largest) mark (lead .0) (lead .1)) ⌝ }
 {
     let best = lead.0;
     let taken = lead.1;

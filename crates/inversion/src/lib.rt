@@ -8,11 +8,13 @@ use explore::explore;
 use newton::Outcome;
 use newton::run;
 use search::Best;
+use surface::Scaling;
 use surface::Shape;
 use vector3::Vector3;
 ghost use mathlib.Core.Path.{_≡_};
 ghost use Rattle.vector3.specs.Laws.{Finite};
-ghost use Rattle.surface.specs.Surface.{surface, refusalOfSurface};
+ghost use Rattle.surface.specs.Surface.{surface};
+ghost use Rattle.surface.specs.Scaled.{Scaled};
 ghost use Rattle.inversion.specs.declared.Hint.the-variants.{At};
 ghost use Rattle.inversion.specs.Inversion.{inversionBy, spend};
 
@@ -35,15 +37,15 @@ fn from_hint(
     kv: &[f64],
     controls: &[f64],
     weights: &[f64],
-    scale: f64,
+    scale: Scaling,
     mark: Vector3,
     u: f64,
     v: f64,
     tolerance: f64,
     budget: u64,
 ) -> Inverted
-    requires { ⌜ (refusalOfSurface (surface shape (now ku) (now kv) (now controls) (now weights)) ≡ 0) × Finite mark ⌝ }
-    ensures { λ r. ⌜ r ≡ spend budget (inversionBy (surface shape (now (ku .entry)) (now (kv .entry)) (now (controls .entry)) (now (weights .entry))) scale mark (At u v) tolerance) ⌝ }
+    requires { ⌜ Scaled (surface shape (now ku) (now kv) (now controls) (now weights)) scale × Finite mark ⌝ }
+    ensures { λ r. ⌜ r ≡ spend budget (inversionBy (surface shape (now (ku .entry)) (now (kv .entry)) (now (controls .entry)) (now (weights .entry))) (scale .largest) mark (At u v) tolerance) ⌝ }
 {
     match run(
         shape,
@@ -76,14 +78,14 @@ pub fn invert_nurbs(
     kv: &[f64],
     controls: &[f64],
     weights: &[f64],
-    scale: f64,
+    scale: Scaling,
     mark: Vector3,
     hint: Hint,
     tolerance: f64,
     budget: u64,
 ) -> Inverted
-    requires { ⌜ (refusalOfSurface (surface shape (now ku) (now kv) (now controls) (now weights)) ≡ 0) × Finite mark ⌝ }
-    ensures { λ r. ⌜ r ≡ spend budget (inversionBy (surface shape (now (ku .entry)) (now (kv .entry)) (now (controls .entry)) (now (weights .entry))) scale mark hint tolerance) ⌝ }
+    requires { ⌜ Scaled (surface shape (now ku) (now kv) (now controls) (now weights)) scale × Finite mark ⌝ }
+    ensures { λ r. ⌜ r ≡ spend budget (inversionBy (surface shape (now (ku .entry)) (now (kv .entry)) (now (controls .entry)) (now (weights .entry))) (scale .largest) mark hint tolerance) ⌝ }
 {
     let Hint::At(u, v) = hint else {
         let lead = Lead(Best::Nothing, 0);

@@ -4,12 +4,14 @@ use newton::Domain;
 use newton::Outcome;
 use newton::run;
 use seeds::Starts;
+use surface::Scaling;
 use surface::Shape;
 use vector3::Vector3;
 ghost use mathlib.Core.Path.{_≡_};
 ghost use mathlib.Core.List.{[]};
 ghost use Prim.Native.Nat.{_≤_};
-ghost use Rattle.surface.specs.Surface.{surface, refusalOfSurface, evaluateBy};
+ghost use Rattle.surface.specs.Surface.{surface, evaluateBy};
+ghost use Rattle.surface.specs.Scaled.{Scaled};
 ghost use Rattle.seeds.specs.Insert.{held};
 ghost use Rattle.inversion.specs.Inversion.{done, runs, concluded, spend};
 ghost use Rattle.inversion.specs.Search.{kept, ledBy};
@@ -54,7 +56,7 @@ pub(crate) fn search(
     kv: &[f64],
     controls: &[f64],
     weights: &[f64],
-    scale: f64,
+    scale: Scaling,
     domain: Domain,
     mark: Vector3,
     starts: Starts,
@@ -63,8 +65,8 @@ pub(crate) fn search(
     more: u64,
     budget: u64,
 ) -> Inverted
-    requires { ⌜ (refusalOfSurface (surface shape (now ku) (now kv) (now controls) (now weights)) ≡ 0) × (starts .count ≤ 6) × (before ≤ budget) ⌝ }
-    ensures { λ r. ⌜ r ≡ spend budget (concluded before more (ledBy first (runs domain mark (evaluateBy (surface shape (now (ku .entry)) (now (kv .entry)) (now (controls .entry)) (now (weights .entry))) scale) (held starts)))) ⌝ }
+    requires { ⌜ Scaled (surface shape (now ku) (now kv) (now controls) (now weights)) scale × (starts .count ≤ 6) × (before ≤ budget) ⌝ }
+    ensures { λ r. ⌜ r ≡ spend budget (concluded before more (ledBy first (runs domain mark (evaluateBy (surface shape (now (ku .entry)) (now (kv .entry)) (now (controls .entry)) (now (weights .entry))) (scale .largest)) (held starts)))) ⌝ }
 {
     let at = starts.at;
     let count = starts.count;

@@ -12,6 +12,7 @@ pub use preimage::derivative;
 use surface::Checked;
 use surface::Shape;
 use surface::check;
+use surface::scaling_of;
 use vector3::Vector3;
 ghost use mathlib.Core.Path.{_≡_};
 ghost use Rattle.surface.specs.Surface.{surface};
@@ -36,13 +37,13 @@ pub fn invert(
     let checked = check(shape, ku, kv, controls, weights);
     match checked {
         Checked::Refusal(n) => Placing::Refusal(n, 0),
-        Checked::Scale(scale) => invert_checked(
+        Checked::Scale(largest) => invert_checked(
             shape,
             ku,
             kv,
             controls,
             weights,
-            scale,
+            scaling_of(ku, kv, controls, largest),
             mark,
             hint,
             tolerance,

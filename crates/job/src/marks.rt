@@ -6,14 +6,15 @@ use inversion::Hint;
 use job_format::mark_at;
 use job_lines::put_pair;
 use job_lines::put_refusal;
+use surface::Scaling;
 use surface::Shape;
 use vector3::Vector3;
 ghost use mathlib.Core.Path.{_≡_};
 ghost use Prim.Native.Nat.{_+_, _*_, _≤_};
 ghost use lib.ListN.{length};
 ghost use Rattle.digits.specs.Text.{Put};
-ghost use Rattle.surface.specs.declared.Checked.the-variants.{Scale};
-ghost use Rattle.surface.specs.Surface.{surface, checked};
+ghost use Rattle.surface.specs.Surface.{surface};
+ghost use Rattle.surface.specs.Scaled.{Scaled};
 ghost use Rattle.inversion.specs.declared.Hint.the-variants.{Nothing};
 ghost use Rattle.chart.specs.declared.Period.the-variants.{Free};
 ghost use Rattle.inverter.specs.Inverter.{placed};
@@ -28,7 +29,7 @@ pub(crate) fn print_marks(
     kv: &[f64],
     controls: &[f64],
     weights: &[f64],
-    scale: f64,
+    scale: Scaling,
     tolerance: f64,
     bytes: &[u8],
     first: usize,
@@ -37,7 +38,7 @@ pub(crate) fn print_marks(
     out: &mut [u8],
     from: usize,
 ) -> usize
-    requires { ⌜ (checked (surface shape (now ku) (now kv) (now controls) (now weights)) ≡ Scale scale) × (first + 26 * marks ≤ length (now bytes)) × (from + 55 * (marks + 1) ≤ length (now out)) ⌝ }
+    requires { ⌜ Scaled (surface shape (now ku) (now kv) (now controls) (now weights)) scale × (first + 26 * marks ≤ length (now bytes)) × (from + 55 * (marks + 1) ≤ length (now out)) ⌝ }
     ensures { λ r. ⌜ Put from (rowLines (inTurn (surface shape (now (ku .entry)) (now (kv .entry)) (now (controls .entry)) (now (weights .entry))) tolerance Free Free 0 (marksAt marks (now (bytes .entry)) first) Nothing budget)) (now (out .entry)) (now (out .exit)) r ⌝ }
 {
     let mut hint = Hint::Nothing;
@@ -73,13 +74,13 @@ fn place(
     kv: &[f64],
     controls: &[f64],
     weights: &[f64],
-    scale: f64,
+    scale: Scaling,
     mark: Vector3,
     hint: Hint,
     tolerance: f64,
     budget: u64,
 ) -> Placing
-    requires { ⌜ checked (surface shape (now ku) (now kv) (now controls) (now weights)) ≡ Scale scale ⌝ }
+    requires { ⌜ Scaled (surface shape (now ku) (now kv) (now controls) (now weights)) scale ⌝ }
     ensures { λ r. ⌜ r ≡ placed (surface shape (now (ku .entry)) (now (kv .entry)) (now (controls .entry)) (now (weights .entry))) mark hint tolerance Free Free budget ⌝ }
     ensures { λ r. ⌜ Printable budget r ⌝ }
 {

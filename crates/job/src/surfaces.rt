@@ -9,14 +9,16 @@ use job_format::number_at;
 use job_lines::put_marks;
 use job_lines::put_refusal;
 use surface::Checked;
+use surface::Scaling;
 use surface::Shape;
 use surface::check;
+use surface::scaling_of;
 ghost use mathlib.Core.Path.{_≡_};
 ghost use Prim.Native.Nat.{_+_, _*_, _≤_};
 ghost use lib.ListN.{length, take};
 ghost use Rattle.digits.specs.Text.{Put};
-ghost use Rattle.surface.specs.declared.Checked.the-variants.{Scale};
-ghost use Rattle.surface.specs.Surface.{surface, checked};
+ghost use Rattle.surface.specs.Surface.{surface};
+ghost use Rattle.surface.specs.Scaled.{Scaled};
 ghost use Rattle.inversion.specs.declared.Hint.the-variants.{Nothing};
 ghost use Rattle.chart.specs.declared.Period.the-variants.{Free};
 ghost use Rattle.row.specs.Row.{rowed};
@@ -91,13 +93,13 @@ fn print_row(
     let checked = check(shape, ku, kv, controls, weights);
     match checked {
         Checked::Refusal(n) => put_refusal(out, from, n, 0),
-        Checked::Scale(scale) => print_checked(
+        Checked::Scale(largest) => print_checked(
             shape,
             ku,
             kv,
             controls,
             weights,
-            scale,
+            scaling_of(ku, kv, controls, largest),
             tolerance,
             bytes,
             first,
@@ -116,7 +118,7 @@ fn print_checked(
     kv: &[f64],
     controls: &[f64],
     weights: &[f64],
-    scale: f64,
+    scale: Scaling,
     tolerance: f64,
     bytes: &[u8],
     first: usize,
@@ -125,7 +127,7 @@ fn print_checked(
     out: &mut [u8],
     from: usize,
 ) -> usize
-    requires { ⌜ (checked (surface shape (now ku) (now kv) (now controls) (now weights)) ≡ Scale scale) × (first + 26 * marks ≤ length (now bytes)) × (from + 55 * (marks + 1) ≤ length (now out)) ⌝ }
+    requires { ⌜ Scaled (surface shape (now ku) (now kv) (now controls) (now weights)) scale × (first + 26 * marks ≤ length (now bytes)) × (from + 55 * (marks + 1) ≤ length (now out)) ⌝ }
     ensures { λ r. ⌜ Put from (rowLines (rowed (surface shape (now (ku .entry)) (now (kv .entry)) (now (controls .entry)) (now (weights .entry))) (marksAt marks (now (bytes .entry)) first) Nothing tolerance Free Free budget)) (now (out .entry)) (now (out .exit)) r ⌝ }
 {
     if !sound_terms(Hint::Nothing, tolerance, Period::Free, Period::Free) {

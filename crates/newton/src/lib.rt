@@ -9,12 +9,14 @@ use round::hold;
 use round::into;
 pub use round::point_of;
 use round::round;
+use surface::Scaling;
 use surface::Shape;
-use surface::surface_jet;
+use surface::scaled_jet;
 use vector3::Vector3;
 ghost use mathlib.Core.Path.{_≡_};
 ghost use Prim.Native.Nat.{_≤_};
-ghost use Rattle.surface.specs.Surface.{surface, refusalOfSurface, evaluateBy};
+ghost use Rattle.surface.specs.Surface.{surface, evaluateBy};
+ghost use Rattle.surface.specs.Scaled.{Scaled};
 ghost use Rattle.newton.specs.Run as Run;
 
 // The knot domain of an axis, and whether parameters outside of it wrap.
@@ -77,14 +79,14 @@ fn rounds(
     kv: &[f64],
     controls: &[f64],
     weights: &[f64],
-    scale: f64,
+    scale: Scaling,
     domain: Domain,
     mark: Vector3,
     start: Held,
     budget: u64,
 ) -> Outcome
-    requires { ⌜ (refusalOfSurface (surface shape (now ku) (now kv) (now controls) (now weights)) ≡ 0) × (start .distance ≡ Run.fromMark mark (start .jet)) × (1 ≤ budget) ⌝ }
-    ensures { λ r. ⌜ r ≡ Run.spend budget (Run.rounds domain mark (evaluateBy (surface shape (now (ku .entry)) (now (kv .entry)) (now (controls .entry)) (now (weights .entry))) scale) 32 1 (start .nudged) (start .x) (start .y) (start .jet)) ⌝ }
+    requires { ⌜ Scaled (surface shape (now ku) (now kv) (now controls) (now weights)) scale × (start .distance ≡ Run.fromMark mark (start .jet)) × (1 ≤ budget) ⌝ }
+    ensures { λ r. ⌜ r ≡ Run.spend budget (Run.rounds domain mark (evaluateBy (surface shape (now (ku .entry)) (now (kv .entry)) (now (controls .entry)) (now (weights .entry))) (scale .largest)) 32 1 (start .nudged) (start .x) (start .y) (start .jet)) ⌝ }
 {
     let mut held = start;
     let mut taken: u64 = 1;
@@ -119,22 +121,22 @@ pub fn run(
     kv: &[f64],
     controls: &[f64],
     weights: &[f64],
-    scale: f64,
+    scale: Scaling,
     domain: Domain,
     mark: Vector3,
     u: f64,
     v: f64,
     budget: u64,
 ) -> Outcome
-    requires { ⌜ refusalOfSurface (surface shape (now ku) (now kv) (now controls) (now weights)) ≡ 0 ⌝ }
-    ensures { λ r. ⌜ r ≡ Run.spend budget (Run.run domain mark (evaluateBy (surface shape (now (ku .entry)) (now (kv .entry)) (now (controls .entry)) (now (weights .entry))) scale) u v) ⌝ }
+    requires { ⌜ Scaled (surface shape (now ku) (now kv) (now controls) (now weights)) scale ⌝ }
+    ensures { λ r. ⌜ r ≡ Run.spend budget (Run.run domain mark (evaluateBy (surface shape (now (ku .entry)) (now (kv .entry)) (now (controls .entry)) (now (weights .entry))) (scale .largest)) u v) ⌝ }
 {
     if budget == 0 {
         return Outcome::Spent;
     }
     let x = into(domain.u, u);
     let y = into(domain.v, v);
-    let Evaluated::Found(jet) = surface_jet(shape, ku, kv, controls, weights, scale, x, y) else {
+    let Evaluated::Found(jet) = scaled_jet(shape, ku, kv, controls, weights, scale, x, y) else {
         return Outcome::Refused(1);
     };
     rounds(

@@ -13,15 +13,17 @@ use float64::is_finite;
 use float64::max;
 use patch::Evaluated;
 use patch::Jet;
+use surface::Scaling;
 use surface::Shape;
-use surface::surface_jet;
+use surface::scaled_jet;
 use vector3::Vector3;
 use vector3::distance;
 use vector3::dot;
 use vector3::sub;
 ghost use mathlib.Core.Path.{_≡_};
 ghost use Prim.Native.Nat.{_≤_};
-ghost use Rattle.surface.specs.Surface.{surface, refusalOfSurface, evaluateBy};
+ghost use Rattle.surface.specs.Surface.{surface, evaluateBy};
+ghost use Rattle.surface.specs.Scaled.{Scaled};
 ghost use Rattle.newton.specs.Run as Run;
 
 fn from_mark(mark: Vector3, j: Jet) -> f64
@@ -173,15 +175,15 @@ pub(crate) fn round(
     kv: &[f64],
     controls: &[f64],
     weights: &[f64],
-    scale: f64,
+    scale: Scaling,
     domain: Domain,
     mark: Vector3,
     held: Held,
     taken: u64,
     budget: u64,
 ) -> Turn
-    requires { ⌜ (refusalOfSurface (surface shape (now ku) (now kv) (now controls) (now weights)) ≡ 0) × (held .distance ≡ Run.fromMark mark (held .jet)) × (taken ≤ budget) ⌝ }
-    ensures { λ r. ⌜ r ≡ Run.paid budget mark (held .nudged) taken (Run.round domain mark (evaluateBy (surface shape (now (ku .entry)) (now (kv .entry)) (now (controls .entry)) (now (weights .entry))) scale) taken (held .nudged) (held .x) (held .y) (held .jet)) ⌝ }
+    requires { ⌜ Scaled (surface shape (now ku) (now kv) (now controls) (now weights)) scale × (held .distance ≡ Run.fromMark mark (held .jet)) × (taken ≤ budget) ⌝ }
+    ensures { λ r. ⌜ r ≡ Run.paid budget mark (held .nudged) taken (Run.round domain mark (evaluateBy (surface shape (now (ku .entry)) (now (kv .entry)) (now (controls .entry)) (now (weights .entry))) (scale .largest)) taken (held .nudged) (held .x) (held .y) (held .jet)) ⌝ }
 {
     let Plan::Probe(nudge, x, y) = plan_from(domain, mark, held) else {
         return Turn::Over(Outcome::Ended(held.x, held.y, held.distance, taken));
@@ -190,7 +192,7 @@ pub(crate) fn round(
         return Turn::Over(Outcome::Spent);
     }
     let units = taken + 1;
-    let Evaluated::Found(jet) = surface_jet(shape, ku, kv, controls, weights, scale, x, y) else {
+    let Evaluated::Found(jet) = scaled_jet(shape, ku, kv, controls, weights, scale, x, y) else {
         return Turn::Over(Outcome::Refused(units));
     };
     let next = hold(mark, held.nudged | nudge, x, y, jet);

@@ -7,13 +7,15 @@ use inversion::Hint;
 use marks::misfit;
 use marks::place_marks;
 use surface::Checked;
+use surface::Scaling;
 use surface::Shape;
 use surface::check;
+use surface::scaling_of;
 ghost use mathlib.Core.Path.{_≡_};
 ghost use mathlib.Core.Bool.{false};
 ghost use lib.ListN.{length};
-ghost use Rattle.surface.specs.declared.Checked.the-variants.{Scale};
-ghost use Rattle.surface.specs.Surface.{surface, checked};
+ghost use Rattle.surface.specs.Surface.{surface};
+ghost use Rattle.surface.specs.Scaled.{Scaled};
 ghost use Rattle.row.specs.Row.{marksOf, misfit, rowed, rowInto, written};
 
 // Every mark was placed, with the budget left; or the number of a refusal, the index of its mark and the budget left.
@@ -46,13 +48,13 @@ pub fn row(
     let checked = check(shape, ku, kv, controls, weights);
     match checked {
         Checked::Refusal(n) => Ended::Refusal(n, 0, budget),
-        Checked::Scale(scale) => row_checked(
+        Checked::Scale(largest) => row_checked(
             shape,
             ku,
             kv,
             controls,
             weights,
-            scale,
+            scaling_of(ku, kv, controls, largest),
             marks,
             hint,
             tolerance,
@@ -71,7 +73,7 @@ fn row_checked(
     kv: &[f64],
     controls: &[f64],
     weights: &[f64],
-    scale: f64,
+    scale: Scaling,
     marks: &[f64],
     hint: Hint,
     tolerance: f64,
@@ -80,7 +82,7 @@ fn row_checked(
     budget: u64,
     answers: &mut [f64],
 ) -> Ended
-    requires { ⌜ (checked (surface shape (now ku) (now kv) (now controls) (now weights)) ≡ Scale scale) × (misfit (length (now marks)) (length (now answers)) ≡ false) ⌝ }
+    requires { ⌜ Scaled (surface shape (now ku) (now kv) (now controls) (now weights)) scale × (misfit (length (now marks)) (length (now answers)) ≡ false) ⌝ }
     ensures { λ r. ⌜ r ≡ rowed (surface shape (now (ku .entry)) (now (kv .entry)) (now (controls .entry)) (now (weights .entry))) (marksOf (now (marks .entry))) hint tolerance pu pv budget .ended ⌝ }
     ensures { λ _. ⌜ now (answers .exit) ≡ written (rowed (surface shape (now (ku .entry)) (now (kv .entry)) (now (controls .entry)) (now (weights .entry))) (marksOf (now (marks .entry))) hint tolerance pu pv budget .pairs) (now (answers .entry)) ⌝ }
 {

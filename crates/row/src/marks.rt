@@ -4,14 +4,15 @@ use chart::Period;
 use chart::Placing;
 use chart::invert_checked;
 use inversion::Hint;
+use surface::Scaling;
 use surface::Shape;
 use vector3::Vector3;
 ghost use mathlib.Core.Path.{_≡_};
 ghost use mathlib.Core.Bool.{false};
 ghost use Prim.Native.Nat.{_+_, _*_, _≤_};
 ghost use lib.ListN.{length};
-ghost use Rattle.surface.specs.declared.Checked.the-variants.{Scale};
-ghost use Rattle.surface.specs.Surface.{surface, checked};
+ghost use Rattle.surface.specs.Surface.{surface};
+ghost use Rattle.surface.specs.Scaled.{Scaled};
 ghost use Rattle.inverter.specs.Inverter.{placed};
 ghost use Rattle.row.specs.Row.{marksOf, misfit, inTurn, written};
 ghost use Rattle.row.specs.Turns.{markAt, fronted};
@@ -29,7 +30,7 @@ pub(crate) fn place_marks(
     kv: &[f64],
     controls: &[f64],
     weights: &[f64],
-    scale: f64,
+    scale: Scaling,
     marks: &[f64],
     first: Hint,
     tolerance: f64,
@@ -38,7 +39,7 @@ pub(crate) fn place_marks(
     budget: u64,
     answers: &mut [f64],
 ) -> Ended
-    requires { ⌜ (checked (surface shape (now ku) (now kv) (now controls) (now weights)) ≡ Scale scale) × (misfit (length (now marks)) (length (now answers)) ≡ false) ⌝ }
+    requires { ⌜ Scaled (surface shape (now ku) (now kv) (now controls) (now weights)) scale × (misfit (length (now marks)) (length (now answers)) ≡ false) ⌝ }
     ensures { λ r. ⌜ r ≡ inTurn (surface shape (now (ku .entry)) (now (kv .entry)) (now (controls .entry)) (now (weights .entry))) tolerance pu pv 0 (marksOf (now (marks .entry))) first budget .ended ⌝ }
     ensures { λ _. ⌜ now (answers .exit) ≡ written (inTurn (surface shape (now (ku .entry)) (now (kv .entry)) (now (controls .entry)) (now (weights .entry))) tolerance pu pv 0 (marksOf (now (marks .entry))) first budget .pairs) (now (answers .entry)) ⌝ }
 {
@@ -90,7 +91,7 @@ fn place_mark(
     kv: &[f64],
     controls: &[f64],
     weights: &[f64],
-    scale: f64,
+    scale: Scaling,
     mark: Vector3,
     hint: Hint,
     tolerance: f64,
@@ -99,7 +100,7 @@ fn place_mark(
     budget: u64,
     rest: &mut [f64],
 ) -> Placing
-    requires { ⌜ (checked (surface shape (now ku) (now kv) (now controls) (now weights)) ≡ Scale scale) × (2 ≤ length (now rest)) ⌝ }
+    requires { ⌜ Scaled (surface shape (now ku) (now kv) (now controls) (now weights)) scale × (2 ≤ length (now rest)) ⌝ }
     ensures { λ r. ⌜ r ≡ placed (surface shape (now (ku .entry)) (now (kv .entry)) (now (controls .entry)) (now (weights .entry))) mark hint tolerance pu pv budget ⌝ }
     ensures { λ r. ⌜ now (rest .exit) ≡ fronted r (now (rest .entry)) ⌝ }
 {

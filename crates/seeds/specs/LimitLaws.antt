@@ -28,24 +28,25 @@ use Rattle.seeds.specs.Grid.{startAt}
 use Rattle.seeds.specs.Insert.{held, Rising, Limits, kept}
 use Rattle.seeds.specs.StartLaws.{full-stays}
 
-abbrev pub squareOf : Vector3 → Jet → Float
-squareOf mark j = let away = sub (pointOf j) mark in dot away away
+-- of a point's distance
+abbrev pub squareOf : Vector3 → Vector3 → Float
+squareOf mark p = let away = sub p mark in dot away away
 
-distance-is-root : (mark : Vector3) (j : Jet) → fromMark mark j ≡ root (squareOf mark j)
+distance-is-root : (mark : Vector3) (j : Jet) → fromMark mark j ≡ root (squareOf mark (pointOf j))
 unfolding fromMark distance norm
 distance-is-root mark j = refl
 
-square-fits : (mark : Vector3) (j : Jet) → T (fits binary64 (squareOf mark j))
+square-fits : (mark p : Vector3) → T (fits binary64 (squareOf mark p))
 unfolding dot
-square-fits mark j = add-fits binary64 _ _
+square-fits mark p = add-fits binary64 _ _
 
-square-not-below : (mark : Vector3) (j : Jet) → Finite mark → Finite (pointOf j) → lt (squareOf mark j) 0· ≡ false
+square-not-below : (mark p : Vector3) → Finite mark → Finite p → lt (squareOf mark p) 0· ≡ false
 unfolding dot sub
-square-not-below mark j f g =
+square-not-below mark p f g =
     nonneg-not-below (sum-nonneg (sum-nonneg (square-nonneg _ (finite-sub-number _ _ (g .x) (f .x))) (square-nonneg _ (finite-sub-number _ _ (g .y) (f .y)))) (square-nonneg _ (finite-sub-number _ _ (g .z) (f .z))))
 
-pub square-sound : (s : Surface) (m : Float) (mark : Vector3) → Finite mark → (x y : Float) (j : Jet) → evaluateBy s m x y ≡ Found j → (q : Float) → q ≡ squareOf mark j → (lt q 0· ≡ false) × T (fits binary64 q)
-square-sound s m mark f x y j h q e = (rw e (square-not-below mark j f (evaluate-finite s m x y j h .point)), rw e (square-fits mark j))
+pub square-sound : (s : Surface) (m : Float) (mark : Vector3) → Finite mark → (x y : Float) (j : Jet) → evaluateBy s m x y ≡ Found j → (q : Float) → q ≡ squareOf mark (pointOf j) → (lt q 0· ≡ false) × T (fits binary64 q)
+square-sound s m mark f x y j h q e = (rw e (square-not-below mark (pointOf j) f (evaluate-finite s m x y j h .point)), rw e (square-fits mark (pointOf j)))
 
 pub no-limit : (ss : List Start) → Limits (0· ⊘ 0·) ss
 unfolding ofBits div le
@@ -56,7 +57,7 @@ pub limit-at : (last : Start) (ss : List Start) (limit : Float) → Rising ss �
 limit-at last ss limit r n b f h = λ d x y g l. full-stays (startAt (root d) x y) last ss r n (le-trans _ (root limit) _ h (root-monotone limit d f g b l))
 
 -- the point of a jet is taken in, by its squared distance q, after s
-module _ (mark : Vector3) (j : Jet) {q : Float} (e : q ≡ squareOf mark j) (s : Starts) (x y : Float) where
+module _ (mark : Vector3) (j : Jet) {q : Float} (e : q ≡ squareOf mark (pointOf j)) (s : Starts) (x y : Float) where
   pub record TakenIn (t : Starts) (limit : Float) : Type 0 where
     pub taken : held t ≡ kept (startAt (fromMark mark j) x y) (held s)
     pub six : t .count ≤ 6
@@ -69,4 +70,4 @@ module _ (mark : Vector3) (j : Jet) {q : Float} (e : q ≡ squareOf mark j) (s :
   taken-in n h = record { taken = by-square (h .0); six = h .1; limits = h .2 }
 
   pub left-out : (limit : Float) → Limits limit (held s) → s .count ≤ 6 → not (le limit q) ≡ false → TakenIn s limit
-  left-out limit l c h = record { taken = by-square (l q x y (rw e (square-fits mark j)) (not-false _ h)); six = c; limits = l }
+  left-out limit l c h = record { taken = by-square (l q x y (rw e (square-fits mark (pointOf j))) (not-false _ h)); six = c; limits = l }

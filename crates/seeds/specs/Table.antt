@@ -1,32 +1,35 @@
--- The functions of the grid's values as the walk keeps them. Definitions only.
+-- The values of the functions at the grid's values as the walk keeps them, and the point of an evaluation. Definitions only.
 use mathlib.Core.Path.{_≡_}
-use mathlib.Core.Bool.{true, false}
+use mathlib.Core.Bool.{Bool, true, false}
 use mathlib.Core.List.{List, []}
-use Prim.Native.Nat.{ℕ, zero, suc, _<_}
+use Prim.Native.Nat.{ℕ, suc, _<_}
 use lib.ListN.{length, getD}
 use lib.Ieee.{Float, nan}
-use Rattle.basis.specs.declared.Place.{Place}
-use Rattle.basis.specs.Basis.{shown}
-use Rattle.basis.specs.Rows.{Rows, basisOf}
+use Rattle.basis.specs.Parts.{valueOf, partOf, shownPart}
+use Rattle.patch.specs.declared.Evaluated.{Evaluated}
+use Rattle.patch.specs.declared.Evaluated.the-variants as Patch
 use Rattle.surface.specs.declared.Counts.{Counts}
 use Rattle.surface.specs.declared.Shape.{Shape}
 use Rattle.surface.specs.Lent.{sampleOn}
-use Rattle.surface.specs.Net.{Patch, Weighed}
+use Rattle.surface.specs.Net.{Weighed}
+use Rattle.newton.specs.Run.{pointOf}
+use Rattle.seeds.specs.declared.Located.{Located}
+use Rattle.seeds.specs.declared.Located.the-variants.{At, Refused}
 
--- one more than where the functions start, or 0
-unfoldable pub placeOf : ℕ → Place
-placeOf zero = record { found = false; start = 0 }
-placeOf (suc i) = record { found = true; start = i }
+unfoldable pub located : Evaluated → Located
+located Patch.Refused = Refused
+located (Patch.Found j) = At (pointOf j)
 
--- the functions of the first k of ts
-pub record Tabled (n : Counts) (ks ts : List Float) (k : ℕ) (table : List Rows) (firsts : List ℕ) : Type 0 where
+-- Where `first` is one more than a start, the row holds the values of the functions at t from there on.
+abbrev pub Known : Bool → Counts → List Float → Float → ℕ → List Float → Type 0
+Known bounded n ks t first row =
+    (i : ℕ) → first ≡ suc i → (bounded ≡ true) × (shownPart (n .degree) (record { found = true; start = i }) row ≡ partOf valueOf (sampleOn n ks t))
+
+-- the same of the first k of ts
+pub record Tabled (bounded : Bool) (n : Counts) (ks ts : List Float) (k : ℕ) (table : List (List Float)) (firsts : List ℕ) : Type 0 where
   pub rows : length table ≡ 193
   pub places : length firsts ≡ 193
-  pub sampled : (j : ℕ) → j < k → shown (n .degree) (basisOf (placeOf (getD firsts j 0)) (getD table j [])) ≡ sampleOn n ks (getD ts j nan)
-
--- where both start, they start at a patch
-abbrev pub Starting : Shape → ℕ → ℕ → Type 0
-Starting shape row column = (i j : ℕ) → row ≡ suc i → column ≡ suc j → Patch shape i j
+  pub known : (j : ℕ) → j < k → Known bounded n ks (getD ts j nan) (getD firsts j 0) (getD table j [])
 
 -- the net holds the weights of the patch where both start
 pub record Held (shape : Shape) (ws : List Float) (m : Float) (row column : ℕ) (net : List Float) : Type 0 where

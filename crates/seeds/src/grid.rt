@@ -1,15 +1,14 @@
 // The walk of the grid: every u value with every v value is evaluated, and the points nearest to the mark are kept.
+use crate::Located;
 use crate::Start;
 use crate::Starts;
 use crate::Values;
 use crate::Walked;
 use crate::insertion::keep;
 use crate::table::first_of;
-use crate::table::jet_at;
+use crate::table::point_at;
 use crate::table::tabulate;
-use newton::point_of;
-use patch::Evaluated;
-use patch::Jet;
+use surface::Scaling;
 use surface::Shape;
 use vector3::Vector3;
 use vector3::dot;
@@ -17,7 +16,8 @@ use vector3::sub;
 ghost use mathlib.Core.Path.{_≡_};
 ghost use Prim.Native.Nat.{_≤_};
 ghost use Rattle.vector3.specs.Laws.{Finite};
-ghost use Rattle.surface.specs.Surface.{surface, refusalOfSurface, evaluateBy};
+ghost use Rattle.surface.specs.Surface.{surface, evaluateBy};
+ghost use Rattle.surface.specs.Scaled.{Scaled};
 ghost use Rattle.seeds.specs.Grid.{survey};
 ghost use Rattle.seeds.specs.LimitLaws.{squareOf};
 ghost use Rattle.seeds.specs.Walk.{listed, outcomeOf, spend};
@@ -34,11 +34,11 @@ fn no_starts() -> Starts
     Starts { at, count: 0 }
 }
 
-// The square of a surface point's distance.
-fn square_of(mark: Vector3, jet: Jet) -> f64
-    ensures { λ r. ⌜ r ≡ squareOf mark jet ⌝ }
+// The square of a point's distance.
+fn square_of(mark: Vector3, point: Vector3) -> f64
+    ensures { λ r. ⌜ r ≡ squareOf mark point ⌝ }
 {
-    let away = sub(point_of(jet), mark);
+    let away = sub(point, mark);
     dot(away, away)
 }
 
@@ -49,23 +49,23 @@ pub fn walk(
     kv: &[f64],
     controls: &[f64],
     weights: &[f64],
-    scale: f64,
+    scale: Scaling,
     us: Values,
     vs: Values,
     mark: Vector3,
     budget: u64,
 ) -> Walked
-    requires { ⌜ (refusalOfSurface (surface shape (now ku) (now kv) (now controls) (now weights)) ≡ 0) × (us .count ≤ 193) × (vs .count ≤ 193) × Finite mark ⌝ }
-    ensures { λ r. ⌜ (outcomeOf r ≡ spend budget (listed us) (listed vs) (survey mark (evaluateBy (surface shape (now (ku .entry)) (now (kv .entry)) (now (controls .entry)) (now (weights .entry))) scale) (listed us) (listed vs))) × (r .starts .count ≤ 6) ⌝ }
+    requires { ⌜ Scaled (surface shape (now ku) (now kv) (now controls) (now weights)) scale × (us .count ≤ 193) × (vs .count ≤ 193) × Finite mark ⌝ }
+    ensures { λ r. ⌜ (outcomeOf r ≡ spend budget (listed us) (listed vs) (survey mark (evaluateBy (surface shape (now (ku .entry)) (now (kv .entry)) (now (controls .entry)) (now (weights .entry))) (scale .largest)) (listed us) (listed vs))) × (r .starts .count ≤ 6) ⌝ }
 {
     let u_at = us.at;
     let v_at = vs.at;
     let rows = us.count;
     let columns = vs.count;
-    let blank = [[0.0f64; 18]; 3];
-    let mut table = [blank; 193];
-    let mut firsts = [0usize; 193];
-    tabulate(kv, shape.v, &v_at, columns, &mut table, &mut firsts);
+    let bounded = scale.bounded;
+    let mut table = [[0.0f64; 18]; 193];
+    let mut first = [0usize; 193];
+    tabulate(kv, shape.v, bounded, &v_at, columns, &mut table, &mut first);
     let mut net = [0.0f64; 289];
     let mut refusal: u64 = 0;
     let mut taken: u64 = 0;
@@ -73,8 +73,8 @@ pub fn walk(
     let mut limit = 0.0 / 0.0;
     'grid: for i in 0..rows {
         let u = u_at[i];
-        let mut functions = [[0.0f64; 18]; 3];
-        let row = first_of(ku, shape.u, u, &mut functions);
+        let mut values = [0.0f64; 18];
+        let row = first_of(ku, shape.u, bounded, u, &mut values);
         let mut held: usize = 0;
         for j in 0..columns {
             if taken == budget {
@@ -82,13 +82,18 @@ pub fn walk(
                 break 'grid;
             }
             taken += 1;
-            let column = firsts[j];
-            let Evaluated::Found(jet) = jet_at(
+            let column = first[j];
+            let v = v_at[j];
+            let Located::At(point) = point_at(
                 shape,
+                ku,
+                kv,
                 controls,
                 weights,
                 scale,
-                &functions,
+                u,
+                v,
+                &values,
                 row,
                 &table[j],
                 column,
@@ -99,9 +104,9 @@ pub fn walk(
                 break 'grid;
             };
             held = column;
-            let square = square_of(mark, jet);
+            let square = square_of(mark, point);
             if !(limit <= square) {
-                let nearest = keep(starts, square, u, v_at[j]);
+                let nearest = keep(starts, square, u, v);
                 starts = nearest.starts;
                 limit = nearest.limit;
             }

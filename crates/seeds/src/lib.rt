@@ -6,6 +6,7 @@ mod table;
 
 pub use axis::axis_values;
 pub use grid::walk;
+use vector3::Vector3;
 
 // The breaks of an axis from which its values are made, and the values themselves.
 pub struct Breaks {
@@ -35,6 +36,12 @@ pub struct Starts {
 pub struct Nearest {
     pub starts: Starts,
     pub limit: f64,
+}
+
+// The point of an evaluation.
+pub enum Located {
+    At(Vector3),
+    Refused,
 }
 
 // A walk of the grid: every point was evaluated where refusal is 0; an evaluation refused where it is 9; no unit was left where it is 8.

@@ -1,49 +1,65 @@
-// The functions of the grid's values, worked out once: those of v for the whole grid, those of u for a row.
+// The values of the functions at the grid's values, worked out once: those of v for the whole grid, those of u for a row.
+use crate::Located;
+use newton::point_of;
 use patch::Evaluated;
+use patch::point;
 use surface::Counts;
+use surface::LEAST_WEIGHT;
+use surface::Scaling;
 use surface::Shape;
-use surface::blend;
-use surface::sample;
+use surface::sample_values;
+use surface::sum_over;
+use surface::surface_jet;
 use surface::weigh;
 ghost use mathlib.Core.Path.{_≡_};
-ghost use mathlib.Core.List.{List};
+ghost use mathlib.Core.Bool.{true};
 ghost use Prim.Native.Nat.{_*_, _≤_, suc};
 ghost use lib.ListN.{length, replicate};
-ghost use lib.Ieee.{Float};
+ghost use Rattle.float64.specs.Operators.{0·};
 ghost use Rattle.spline.specs.Knots.{refusalOfKnots};
-ghost use Rattle.basis.specs.Basis.{shown};
-ghost use Rattle.basis.specs.Rows.{blank, basisOf};
-ghost use Rattle.surface.specs.Surface.{surface, blended};
-ghost use Rattle.surface.specs.Lent.{axisOf, sampleOn};
+ghost use Rattle.basis.specs.Magnitude.{Bounded};
+ghost use Rattle.surface.specs.Surface.{surface, evaluateBy};
+ghost use Rattle.surface.specs.Lent.{axisOf};
 ghost use Rattle.surface.specs.Net.{Patch};
-ghost use Rattle.seeds.specs.Table.{placeOf, Tabled, Starting, Held};
+ghost use Rattle.surface.specs.Scaled.{Scaled};
+ghost use Rattle.seeds.specs.Table.{located, Known, Tabled, Held};
 
-// The functions of an axis at t, put into empty rows. One more than where they start, and 0 where they are refused.
-pub(crate) fn first_of(knots: &[f64], counts: Counts, t: f64, rows: &mut [[f64; 18]; 3]) -> usize
-    requires { ⌜ (refusalOfKnots (axisOf counts (now knots)) ≡ 0) × (now rows ≡ blank) ⌝ }
-    ensures { λ r. ⌜ shown (counts .degree) (basisOf (placeOf r) (now (rows .exit))) ≡ sampleOn counts (now (knots .entry)) t ⌝ }
+// The values of an axis's functions at t, put into an empty row. One more than where they start; 0 where they are refused, and where an overflow is not ruled out.
+pub(crate) fn first_of(
+    knots: &[f64],
+    counts: Counts,
+    bounded: bool,
+    t: f64,
+    row: &mut [f64; 18],
+) -> usize
+    requires { ⌜ (refusalOfKnots (axisOf counts (now knots)) ≡ 0) × (bounded ≡ true → Bounded (axisOf counts (now knots))) × (now row ≡ replicate 18 0·) ⌝ }
+    ensures { λ r. ⌜ Known bounded counts (now (knots .entry)) t r (now (row .exit)) ⌝ }
 {
-    let place = sample(knots, counts, t, rows);
+    if !bounded {
+        return 0;
+    }
+    let place = sample_values(knots, counts, t, row);
     if !place.found {
         return 0;
     }
     place.start + 1
 }
 
-// The same of the first `count` values, each with its own rows.
+// The same of the first `count` values, each with its own row.
 pub(crate) fn tabulate(
     knots: &[f64],
     counts: Counts,
+    bounded: bool,
     values: &[f64; 193],
     count: usize,
-    table: &mut [[[f64; 18]; 3]; 193],
+    table: &mut [[f64; 18]; 193],
     firsts: &mut [usize; 193],
 )
-    requires { ⌜ (refusalOfKnots (axisOf counts (now knots)) ≡ 0) × (count ≤ 193) × (now table ≡ replicate 193 blank) × (length (now firsts) ≡ 193) ⌝ }
-    ensures { λ _. ⌜ Tabled counts (now (knots .entry)) (now (values .entry)) count (now (table .exit)) (now (firsts .exit)) ⌝ }
+    requires { ⌜ (refusalOfKnots (axisOf counts (now knots)) ≡ 0) × (bounded ≡ true → Bounded (axisOf counts (now knots))) × (count ≤ 193) × (now table ≡ replicate 193 (replicate 18 0·)) × (length (now firsts) ≡ 193) ⌝ }
+    ensures { λ _. ⌜ Tabled bounded counts (now (knots .entry)) (now (values .entry)) count (now (table .exit)) (now (firsts .exit)) ⌝ }
 {
     for j in 0..count {
-        firsts[j] = first_of(knots, counts, values[j], &mut table[j]);
+        firsts[j] = first_of(knots, counts, bounded, values[j], &mut table[j]);
     }
 }
 
@@ -65,28 +81,50 @@ fn reweigh(
     }
 }
 
-// The point where the functions of u and v start at a row and a column.
-pub(crate) fn jet_at(
+fn located(e: Evaluated) -> Located
+    ensures { λ r. ⌜ r ≡ located e ⌝ }
+{
+    match e {
+        Evaluated::Found(j) => Located::At(point_of(j)),
+        Evaluated::Refused => Located::Refused,
+    }
+}
+
+// The surface point at u and v, of which us and vs are the functions' values: from these where they start at a row and a column, and the weight sum is large enough.
+pub(crate) fn point_at(
     shape: Shape,
+    ku: &[f64],
+    kv: &[f64],
     controls: &[f64],
     weights: &[f64],
-    scale: f64,
-    u: &[[f64; 18]; 3],
+    scale: Scaling,
+    u: f64,
+    v: f64,
+    us: &[f64; 18],
     row: usize,
-    v: &[[f64; 18]; 3],
+    vs: &[f64; 18],
     column: usize,
     held: usize,
     net: &mut [f64; 289],
-) -> Evaluated
-    requires { ⌜ (length (now controls) ≡ 3 * (shape .u .controls * shape .v .controls)) × (length (now weights) ≡ shape .u .controls * shape .v .controls) × Starting shape row column × Held shape (now weights) scale row held (now net) ⌝ }
-    ensures { λ r. ⌜ ((ku kv : List Float) → r ≡ blended (surface shape ku kv (now (controls .entry)) (now (weights .entry))) scale (shown (shape .u .degree) (basisOf (placeOf row) (now (u .entry)))) (shown (shape .v .degree) (basisOf (placeOf column) (now (v .entry))))) × Held shape (now (weights .entry)) scale row column (now (net .exit)) ⌝ }
+) -> Located
+    requires { ⌜ Scaled (surface shape (now ku) (now kv) (now controls) (now weights)) scale × Known (scale .bounded) (shape .u) (now ku) u row (now us) × Known (scale .bounded) (shape .v) (now kv) v column (now vs) × Held shape (now weights) (scale .largest) row held (now net) ⌝ }
+    ensures { λ r. ⌜ r ≡ located (evaluateBy (surface shape (now (ku .entry)) (now (kv .entry)) (now (controls .entry)) (now (weights .entry))) (scale .largest) u v) ⌝ }
+    ensures { λ _. ⌜ Held shape (now (weights .entry)) (scale .largest) row column (now (net .exit)) ⌝ }
 {
-    if row == 0 {
-        return Evaluated::Refused;
+    if (row != 0) & (column != 0) {
+        reweigh(
+            shape,
+            weights,
+            scale.largest,
+            row - 1,
+            column - 1,
+            held,
+            net,
+        );
+        let sum = sum_over(shape, controls, &*net, us, row - 1, vs, column - 1);
+        if LEAST_WEIGHT <= sum.w {
+            return Located::At(point(sum));
+        }
     }
-    if column == 0 {
-        return Evaluated::Refused;
-    }
-    reweigh(shape, weights, scale, row - 1, column - 1, held, net);
-    blend(shape, controls, &*net, u, row - 1, v, column - 1)
+    located(surface_jet(shape, ku, kv, controls, weights, scale.largest, u, v))
 }

@@ -1,4 +1,5 @@
 pub mod CheckSteps
 pub mod SumSteps
 pub mod NetSteps
+pub mod SizeSteps
 pub mod EvaluateSteps

@@ -8,4 +8,5 @@ pub mod PatchLaws
 pub mod EvaluateLaws
 pub mod Magnitude
 pub mod PartLaws
+pub mod Scaled
 pub mod Examples

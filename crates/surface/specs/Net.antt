@@ -12,7 +12,7 @@ use Rattle.basis.specs.Basis.{Three, three, Sample, sample, threes}
 use Rattle.basis.specs.Rows.{Rows, entry, basisOf}
 use Rattle.patch.specs.declared.Sum.{Sum}
 use Rattle.patch.specs.declared.Sums.{Sums}
-use Rattle.patch.specs.Patch.{more, emptySums}
+use Rattle.patch.specs.Patch.{more, emptySum, emptySums}
 use Rattle.surface.specs.declared.Shape.{Shape}
 use Rattle.surface.specs.Surface.{Surface, pointAt, heaviest, over}
 use Rattle.surface.specs.Lent.{lent, counted, Within}
@@ -86,3 +86,9 @@ module _ (s : Surface) (m : Float) (i j : ℕ) (cs bs : List Three) where
 
   abbrev pub sums : Sums
   sums = over s m heaviestOf cs bs (i * s .shape .v .controls + j) emptySums
+
+-- one of them by a net of the patch's weights, and by a number of each function, which stand in a row for u and one for v
+abbrev pub sumBy : Surface → ℕ → ℕ → List Float → List Float → List Float → Sum
+sumBy s i j net us vs =
+    let n = s .shape .v .controls in
+    overBy term (s .controls) n (sequence (numberAt us) (s .shape .u .degree + 1) 0) (sequence (numberAt vs) (s .shape .v .degree + 1) 0) net (i * n + j) emptySum

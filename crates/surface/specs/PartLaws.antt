@@ -8,6 +8,7 @@ use native.Mathlib.Omega.{arith}
 use lib.ListN.{length, take, length-map, length-take}
 use lib.Ieee.{Float, le}
 use Rattle.spline.specs.declared.parameter.KnotSide.the-variants.{Right}
+use Rattle.spline.specs.Knots.{refusalOfKnots}
 use Rattle.basis.specs.declared.Place.{Place}
 use Rattle.basis.specs.Basis.{Three, Sample, refused, sample}
 use Rattle.basis.specs.BasisLaws.{support}
@@ -16,25 +17,29 @@ use Rattle.patch.specs.declared.Sum.{Sum}
 use Rattle.patch.specs.declared.Sums.{Sums}
 use Rattle.patch.specs.declared.Evaluated.the-variants.{Found}
 use Rattle.patch.specs.Patch.{emptySum, jetOfSums}
-use Rattle.surface.specs.Surface.{Surface, axisU, axisV, sampleU, sampleV, evaluateBy, refusalOfSurface, scaleOf}
+use Rattle.surface.specs.declared.Counts.{Counts}
+use Rattle.surface.specs.Surface.{Surface, sampleU, sampleV, evaluateBy, refusalOfSurface, scaleOf}
 use Rattle.surface.specs.SurfaceLaws.{accepted-surface}
+use Rattle.surface.specs.Lent.{axisOf, sampleOn}
 use Rattle.surface.specs.PatchLaws.{patch-below}
-use Rattle.surface.specs.Net.{overBy, term, sequence, numberAt, Patch, Weighed, sums}
+use Rattle.surface.specs.Net.{overBy, term, sequence, numberAt, Patch, Weighed, sums, sumBy}
 use Rattle.surface.specs.NetLaws.{take-sequence, value-alone, u-alone, v-alone}
 use Rattle.surface.specs.Magnitude.{Bounded, leastWeight, bounded-found}
 
 -- ---- one axis
 
--- a row that shows a part of a sample
-record Functions (p : Place) (s : Sample) : Type 0 where
+-- what a row that shows a part of a sample tells of the whole
+record Functions (n : Counts) (p : Place) (s : Sample) : Type 0 where
   all : List Three
   is : s ≡ sample (p .start) all
+  count : length all ≡ n .degree + 1
+  below : p .start + n .degree < n .controls
 
 module _ (degree : ℕ) (p : Place) (found : p .found ≡ true) where
-  functions-of : (f : Three → Float) (row : List Float) (s : Sample) → shownPart degree p row ≡ partOf f s → Functions p s
+  sampled : (f : Three → Float) (row : List Float) (s : Sample) → shownPart degree p row ≡ partOf f s → (ts : List Three) × (s ≡ sample (p .start) ts)
   unfolding shownPart partOf
-  functions-of f row refused e = let z : _≡_ {A = ℕ} 0 1 = cc (simp found at e) in absurd (omega arith)
-  functions-of f row (sample i ts) e = record { all = ts; is = let q : i ≡ p .start = cc (simp found at e) in rw q }
+  sampled f row refused e = let z : _≡_ {A = ℕ} 0 1 = cc (simp found at e) in absurd (omega arith)
+  sampled f row (sample i ts) e = (ts, let q : i ≡ p .start = cc (simp found at e) in rw q)
 
   row-is : (f : Three → Float) (row : List Float) (ts : List Three) {s : Sample} → s ≡ sample (p .start) ts → length ts ≡ degree + 1 → shownPart degree p row ≡ partOf f s
       → sequence (numberAt row) (degree + 1) 0 ≡ map f ts
@@ -44,41 +49,42 @@ module _ (degree : ℕ) (p : Place) (found : p .found ≡ true) where
       let few : degree + 1 ≤ length row = omega (arith, l, length-map ts f, ap length q, length-take (suc degree) row) in
       sym (take-sequence row (degree + 1) few) ∙ ap (λ (n : ℕ). take n row) (add-one degree) ∙ q
 
+module _ (n : Counts) (ks : List Float) (t : Float) (p : Place) (row : List Float) (ok : refusalOfKnots (axisOf n ks) ≡ 0) (found : p .found ≡ true) (e : shownPart (n .degree) p row ≡ partOf valueOf (sampleOn n ks t)) where
+  functions : Functions n p (sampleOn n ks t)
+  functions =
+      let z = sampled (n .degree) p found valueOf row (sampleOn n ks t) e in
+      let r = support (axisOf n ks) Right _ (p .start) (z .0) (z .1) ok in
+      record { all = z .0; is = z .1; count = r .count; below = r .below }
+
+  pub values-below : p .start + n .degree < n .controls
+  values-below = functions .below
+
 -- ---- both, where the values are found
 
 module _ (s : Surface) (ok : refusalOfSurface s ≡ 0) (x y : Float) (p q : Place) (us vs : List Float) (pf : p .found ≡ true) (qf : q .found ≡ true)
     (eu : shownPart (s .shape .u .degree) p us ≡ partOf valueOf (sampleU s x)) (ev : shownPart (s .shape .v .degree) q vs ≡ partOf valueOf (sampleV s y)) where
-  along-u : Functions p (sampleU s x)
-  along-u = functions-of _ p pf valueOf us _ eu
+  along-u : Functions (s .shape .u) p (sampleU s x)
+  along-u = functions (s .shape .u) (s .knotsU) x p us (accepted-surface s ok .knots-u) pf eu
 
-  along-v : Functions q (sampleV s y)
-  along-v = functions-of _ q qf valueOf vs _ ev
-
-  reach-u : (length (along-u .all) ≡ s .shape .u .degree + 1) × (p .start + s .shape .u .degree < s .shape .u .controls)
-  reach-u = let r = support (axisU s) Right _ (p .start) (along-u .all) (along-u .is) (accepted-surface s ok .knots-u) in (r .count, r .below)
-
-  reach-v : (length (along-v .all) ≡ s .shape .v .degree + 1) × (q .start + s .shape .v .degree < s .shape .v .controls)
-  reach-v = let r = support (axisV s) Right _ (q .start) (along-v .all) (along-v .is) (accepted-surface s ok .knots-v) in (r .count, r .below)
+  along-v : Functions (s .shape .v) q (sampleV s y)
+  along-v = functions (s .shape .v) (s .knotsV) y q vs (accepted-surface s ok .knots-v) qf ev
 
   pub patch-of : Patch (s .shape) (p .start) (q .start)
-  patch-of = patch-below s ok (p .start) (q .start) (reach-u .1) (reach-v .1)
+  patch-of = patch-below s ok (p .start) (q .start) (along-u .below) (along-v .below)
 
   module _ (B : Bounded s) (net : List Float) (w : Weighed (s .shape) (s .weights) (scaleOf s) (p .start) (q .start) net) where
-    -- the sum by a row of u and a row of v
     abbrev by : List Float → List Float → Sum
-    by a b =
-        let n = s .shape .v .controls in
-        overBy term (s .controls) n (sequence (numberAt a) (s .shape .u .degree + 1) 0) (sequence (numberAt b) (s .shape .v .degree + 1) 0) net (p .start * n + q .start) emptySum
+    by = sumBy s (p .start) (q .start) net
 
     abbrev whole : Sums
     whole = sums s (scaleOf s) (p .start) (q .start) (along-u .all) (along-v .all)
 
     module _ (f g : Three → Float) (fs gs : List Float) (ef : shownPart (s .shape .u .degree) p fs ≡ partOf f (sampleU s x)) (eg : shownPart (s .shape .v .degree) q gs ≡ partOf g (sampleV s y)) where
       by-rows : by fs gs ≡ overBy term (s .controls) (s .shape .v .controls) (map f (along-u .all)) (map g (along-v .all)) net (p .start * s .shape .v .controls + q .start) emptySum
-      by-rows = rw (row-is _ p pf f fs _ (along-u .is) (reach-u .0) ef, row-is _ q qf g gs _ (along-v .is) (reach-v .0) eg)
+      by-rows = rw (row-is _ p pf f fs _ (along-u .is) (along-u .count) ef, row-is _ q qf g gs _ (along-v .is) (along-v .count) eg)
 
     value-is : by us vs ≡ whole .value
-    value-is = by-rows valueOf valueOf us vs eu ev ∙ value-alone s (scaleOf s) _ _ net w _ _ (reach-u .0) (reach-v .0)
+    value-is = by-rows valueOf valueOf us vs eu ev ∙ value-alone s (scaleOf s) _ _ net w _ _ (along-u .count) (along-v .count)
 
     module _ (heavy : le leastWeight (by us vs .w) ≡ true) where
       found : evaluateBy s (scaleOf s) x y ≡ Found (jetOfSums (whole .value) (whole .u) (whole .v))
@@ -91,6 +97,6 @@ module _ (s : Surface) (ok : refusalOfSurface s ≡ 0) (x y : Float) (p q : Plac
       pub jet-found : (fs gs : List Float) → shownPart (s .shape .u .degree) p fs ≡ partOf firstOf (sampleU s x) → shownPart (s .shape .v .degree) q gs ≡ partOf firstOf (sampleV s y)
           → evaluateBy s (scaleOf s) x y ≡ Found (jetOfSums (by us vs) (by fs vs) (by us gs))
       jet-found fs gs ef eg =
-          let a : by fs vs ≡ whole .u = by-rows firstOf valueOf fs vs ef ev ∙ u-alone s (scaleOf s) _ _ net w _ _ (reach-u .0) (reach-v .0) in
-          let b : by us gs ≡ whole .v = by-rows valueOf firstOf us gs eu eg ∙ v-alone s (scaleOf s) _ _ net w _ _ (reach-u .0) (reach-v .0) in
+          let a : by fs vs ≡ whole .u = by-rows firstOf valueOf fs vs ef ev ∙ u-alone s (scaleOf s) _ _ net w _ _ (along-u .count) (along-v .count) in
+          let b : by us gs ≡ whole .v = by-rows valueOf firstOf us gs eu eg ∙ v-alone s (scaleOf s) _ _ net w _ _ (along-u .count) (along-v .count) in
           rw (value-is, a, b) found

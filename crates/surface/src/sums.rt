@@ -211,7 +211,7 @@ pub fn sum_over(
 }
 
 // The point and its derivatives where the functions of the axes start at a row and a column, with the weights of that patch.
-pub fn blend(
+pub(crate) fn blend(
     shape: Shape,
     controls: &[f64],
     net: &[f64; 289],

@@ -3,6 +3,7 @@ use mathlib.Core.Path.{_≡_}
 use borrow.Author.Needs.{needs}
 use Rattle.surface.specs.Surface.{Surface, surface}
 use Rattle.surface.specs.SurfaceLaws.{accepted-surface}
+use Rattle.surface.specs.Scaled.{scaled-accepted}
 use Rattle.inversion.specs.Inversion.{domainOf}
 use Rattle.inversion.proofs.ExploreSteps.{domain-is, hint-spent, hint-refused, hint-fits, hint-close, hint-far}
 use Rattle.inversion.proofs.from_hint.Statement.{statement}
@@ -20,7 +21,7 @@ whole c = domain-is (of (start c)) (c .domain-of .result) (c .domain-of .ensures
 domain-of-requires : tie.Need-domain-of-requires
 domain-of-requires c κs =
     let from = c .before .before .before .before in
-    let known = accepted-surface (of from) (from .pre .0) in
+    let known = accepted-surface (of from) (scaled-accepted _ _ (from .pre .0)) in
     (known .knots-u, known .knots-v)
 
 run-requires : tie.Need-run-requires

@@ -1,5 +1,4 @@
 use mathlib.Core.Path.{sym, _∙_}
-use Rattle.surface.specs.SurfaceLaws.{checked-scale}
 use Rattle.inverter.specs.Inverter.{placed}
 use Rattle.inverter.proofs.Steps.{refused, passed}
 use borrow.Author.Needs.{needs}
@@ -16,7 +15,9 @@ enum-known-checked-2 : tie.Need-enum-known-checked-2
 enum-known-checked-2 c = search needs
 
 invert-checked-requires : tie.Need-invert-checked-requires
-invert-checked-requires c κs = checked-scale _ _ (sym (c .before .before .before .check .ensures) ∙ c .before .checked2 .given .1) .0
+invert-checked-requires c κs =
+    let to = c .before .before in
+    c .scaling-of .ensures _ _ (sym (to .before .before .check .ensures) ∙ to .checked2 .given .1)
 
 returns : tie.Need-returns
 unfolding placed
@@ -24,7 +25,11 @@ returns c = refused _ _ (c .before .before .before .check .ensures) (c .before .
 
 returns-2 : tie.Need-returns-2
 unfolding placed
-returns-2 c = passed _ _ (c .before .before .before .before .check .ensures) (c .before .before .checked2 .given .1) (c .invert-checked .ensures)
+returns-2 c =
+    let at = c .before in
+    let to = at .before .before in
+    let check = to .before .before .check .ensures in
+    passed _ _ check (check ∙ at .scaling-of .ensures _ _ (sym check ∙ to .checked2 .given .1) .checked) (c .invert-checked .ensures)
 
 pub invert-spec : {M : Type 1} → statement M
 invert-spec =
@@ -33,6 +38,7 @@ invert-spec =
     check-requires
     enum-known-checked
     enum-known-checked-2
+    (λ c κs. search needs)
     invert-checked-requires
     returns
     returns-2)

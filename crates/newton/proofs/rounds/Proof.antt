@@ -11,7 +11,7 @@ use Rattle.newton.proofs.rounds.Tie as tie
 
 abbrev Inv-loop : tie.InvT-loop
 Inv-loop shape ku kv controls weights scale domain mark budget held₀ taken₀ held taken =
-    let eval = evaluateBy (surface shape ku kv controls weights) scale in
+    let eval = evaluateBy (surface shape ku kv controls weights) (scale .largest) in
     Kept domain mark eval budget (rounds domain mark eval 32 1 (held₀ .nudged) (held₀ .x) (held₀ .y) (held₀ .jet)) held taken
 
 abbrev μ-loop : tie.MeasureT-loop

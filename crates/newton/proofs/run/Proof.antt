@@ -42,8 +42,8 @@ into-requires c κs = search needs
 into-requires-2 : tie.Need-into-requires-2
 into-requires-2 c κs = search needs
 
-surface-jet-requires : tie.Need-surface-jet-requires
-surface-jet-requires c κs = search needs
+scaled-jet-requires : tie.Need-scaled-jet-requires
+scaled-jet-requires c κs = search needs
 
 enum-known-jet : tie.Need-enum-known-jet
 enum-known-jet c = search needs
@@ -55,7 +55,7 @@ returns-2 : tie.Need-returns-2
 returns-2 c =
     let to = c .before .before in
     let at = to .before .before in
-    refused _ _ _ _ _ _ _ _ (at .into .ensures) (to .before .into2 .ensures) (to .surface-jet .ensures) (at .before .if1 .left) (c .enum-told .given .1)
+    refused _ _ _ _ _ _ _ _ (at .into .ensures) (to .before .into2 .ensures) (to .scaled-jet .ensures) (at .before .if1 .left) (c .enum-told .given .1)
 
 hold-requires : tie.Need-hold-requires
 hold-requires c κs = search needs
@@ -70,7 +70,7 @@ returns-3 c =
     let is = c .before .before .before in
     let to = is .before .before in
     let at = to .before .before in
-    begun _ _ _ _ _ _ _ _ (at .into .ensures) (to .before .into2 .ensures) (to .surface-jet .ensures) _ (c .before .hold .result) (is .jet .given .1) (c .before .hold .ensures) (c .rounds .ensures)
+    begun _ _ _ _ _ _ _ _ (at .into .ensures) (to .before .into2 .ensures) (to .scaled-jet .ensures) _ (c .before .hold .result) (is .jet .given .1) (c .before .hold .ensures) (c .rounds .ensures)
 
 pub run-spec : {M : Type 1} → statement M
 run-spec =
@@ -79,7 +79,7 @@ run-spec =
     returns
     into-requires
     into-requires-2
-    surface-jet-requires
+    scaled-jet-requires
     enum-known-jet
     enum-told
     returns-2

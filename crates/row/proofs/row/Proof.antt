@@ -21,9 +21,9 @@ enum-known-checked-2 c = search needs
 
 row-checked-requires : tie.Need-row-checked-requires
 row-checked-requires c κs =
-    let by = c .before .before in
+    let by = c .before .before .before in
     let to = by .before .before in
-    (sym (to .check .ensures) ∙ by .checked2 .given .1, sym (to .before .before .misfit .ensures) ∙ to .before .if1 .left)
+    (c .before .scaling-of .ensures _ _ (sym (to .check .ensures) ∙ by .checked2 .given .1), sym (to .before .before .misfit .ensures) ∙ to .before .if1 .left)
 
 returns-2 : tie.Need-returns-2
 returns-2 c =
@@ -36,7 +36,7 @@ same-length c = search needs
 returns-3 : tie.Need-returns-3
 returns-3 c =
     let by = c .before .before in
-    let to = by .before .before .before .before .before in
+    let to = by .before .before .before .before .before .before in
     surface-passed _ _ _ _ _ _ _ _ (to .before .before .misfit .ensures) (to .before .if1 .left) (by .row-checked .ensures)
 
 pub row-spec : {M : Type 1} → statement M
@@ -48,6 +48,7 @@ row-spec =
     check-requires
     enum-known-checked
     enum-known-checked-2
+    (λ c κs. search needs)
     row-checked-requires
     returns-2
     same-length

@@ -11,7 +11,7 @@ returns : tie.Need-returns
 returns c =
     let to = c .before in
     let at = to .before .before .before .before .before .before .before in
-    seven _ _ _ _ _ _ _ _ (at .pre .0) (to .sound-terms .ensures) (not-true _ (c .if1 .taken))
+    seven _ _ _ _ _ _ _ _ (at .pre .0 .checked) (to .sound-terms .ensures) (not-true _ (c .if1 .taken))
 
 place-marks-requires : tie.Need-place-marks-requires
 place-marks-requires c κs = search needs
@@ -24,7 +24,7 @@ returns-2 c =
     let by = c .before .before in
     let to = by .before .before in
     let at = to .before .before .before .before .before .before .before .before in
-    sound _ _ _ _ _ _ _ _ (at .pre .0) (to .before .sound-terms .ensures) (not-false _ (to .if1 .left)) (by .place-marks .ensures)
+    sound _ _ _ _ _ _ _ _ (at .pre .0 .checked) (to .before .sound-terms .ensures) (not-false _ (to .if1 .left)) (by .place-marks .ensures)
 
 pub row-checked-spec : {M : Type 1} → statement M
 row-checked-spec =

@@ -3,6 +3,7 @@ use native.Mathlib.Omega.{arith}
 use borrow.Author.Needs.{needs}
 use Rattle.surface.specs.Surface.{Surface, surface}
 use Rattle.surface.specs.SurfaceLaws.{AcceptedSurface, accepted-surface}
+use Rattle.surface.specs.Scaled.{scaled-accepted}
 use Rattle.inversion.proofs.ExploreSteps.{domain-is, Walks, walks, found-fits, refused-fits, explore-found, explore-refused, explore-spent}
 use Rattle.inversion.proofs.explore.explore.Statement.{statement}
 use Rattle.inversion.proofs.explore.explore.Tie as tie
@@ -11,12 +12,12 @@ abbrev of : tie.Start → Surface
 of c = surface (c .args .shape) (c .args .ku .now) (c .args .kv .now) (c .args .controls .now) (c .args .weights .now)
 
 known : (c : tie.Start) → AcceptedSurface (of c)
-known c = accepted-surface (of c) (c .pre .0)
+known c = accepted-surface (of c) (scaled-accepted _ _ (c .pre .0))
 
 abbrev start : tie.After-walk → tie.Start
 start c = c .before .before .before .before .before .before .before .before .before
 
-walked : (c : tie.After-walk) → Walks (of (start c)) (start c .args .scale) (start c .args .mark) (start c .args .lead .1) (start c .args .budget) (c .walk .result)
+walked : (c : tie.After-walk) → Walks (of (start c)) (start c .args .scale .largest) (start c .args .mark) (start c .args .lead .1) (start c .args .budget) (c .walk .result)
 walked c =
     let us = c .before .before .axis-values in
     let vs = c .before .axis-values2 in

@@ -15,7 +15,7 @@ use Rattle.inversion.proofs.search.search.Tie as tie
 
 abbrev Inv-loop : tie.InvT-loop
 Inv-loop shape ku kv controls weights scale domain mark before more budget at count best₀ taken₀ i₀ best taken i =
-    let from = runsFrom domain mark (evaluateBy (surface shape ku kv controls weights) scale) at count in
+    let from = runsFrom domain mark (evaluateBy (surface shape ku kv controls weights) (scale .largest)) at count in
     (i ≤ count) × (count ≤ length at) × Stands (concluded before more (ledBy best₀ (from 0))) budget more taken best (from i)
 
 abbrev μ-loop : tie.MeasureT-loop

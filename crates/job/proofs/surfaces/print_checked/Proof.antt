@@ -20,7 +20,7 @@ returns c =
     let p = c .before .before in
     let t = p .before .before in
     let st = t .before .before .before .before .before .before .before .before in
-    put-as (sym (lines-seven _ _ _ _ _ _ _ _ (st .pre .0) _ (t .before .sound-terms .ensures) (not-true _ (t .if1 .taken)))) (p .put-refusal .ensures .0)
+    put-as (sym (lines-seven _ _ _ _ _ _ _ _ (st .pre .0 .checked) _ (t .before .sound-terms .ensures) (not-true _ (t .if1 .taken)))) (p .put-refusal .ensures .0)
 
 print-marks-requires : tie.Need-print-marks-requires
 print-marks-requires c κs = search needs
@@ -33,7 +33,7 @@ returns-2 c =
     let p = c .before .before in
     let t = p .before .before in
     let st = t .before .before .before .before .before .before .before .before in
-    put-as (sym (lines-sound _ _ _ _ _ _ _ _ (st .pre .0) _ (t .before .sound-terms .ensures) (not-false _ (t .if1 .left)))) (p .print-marks .ensures)
+    put-as (sym (lines-sound _ _ _ _ _ _ _ _ (st .pre .0 .checked) _ (t .before .sound-terms .ensures) (not-false _ (t .if1 .left)))) (p .print-marks .ensures)
 
 pub print-checked-spec : {M : Type 1} → statement M
 print-checked-spec =

@@ -19,10 +19,10 @@ enum-known-checked-2 c = search needs
 
 print-checked-requires : tie.Need-print-checked-requires
 print-checked-requires c κs =
-    let k = c .before .before in
+    let k = c .before .before .before in
     let e = k .before .before in
     let st = e .before .before .before .before .before .before .before in
-    (sym (e .check .ensures) ∙ k .checked2 .given .1, st .pre .0, st .pre .1)
+    (c .before .scaling-of .ensures _ _ (sym (e .check .ensures) ∙ k .checked2 .given .1), st .pre .0, st .pre .1)
 
 same-length : tie.Need-same-length
 same-length c = search needs
@@ -48,6 +48,7 @@ print-row-spec =
     enum-known-checked
     put-refusal-requires
     enum-known-checked-2
+    (λ c κs. search needs)
     print-checked-requires
     same-length
     returns

@@ -10,7 +10,7 @@ start c = c .before .before .before .before .before
 abbrev planned : tie.After-nudge → tie.After-plan-from
 planned c = c .before .before
 
-abbrev probed : tie.After-surface-jet → tie.After-nudge
+abbrev probed : tie.After-scaled-jet → tie.After-nudge
 probed c = c .before .before .before
 
 abbrev found : tie.After-judge → tie.After-jet
@@ -39,8 +39,8 @@ returns-2 c =
 add-units : tie.Need-add-units
 add-units c = search needs
 
-surface-jet-requires : tie.Need-surface-jet-requires
-surface-jet-requires c κs = search needs
+scaled-jet-requires : tie.Need-scaled-jet-requires
+scaled-jet-requires c κs = search needs
 
 enum-known-jet : tie.Need-enum-known-jet
 enum-known-jet c = search needs
@@ -53,7 +53,7 @@ returns-3 c =
     let jet = c .before .before in
     let at = probed jet in
     let to = planned at in
-    refused _ _ _ _ (start to .args .held) _ (start to .pre .1) (start to .pre .2) (to .plan-from .ensures) _ _ _ (at .nudge .given .1) (jet .before .if1 .left) (jet .surface-jet .ensures) (c .enum-told2 .given .1)
+    refused _ _ _ _ (start to .args .held) _ (start to .pre .1) (start to .pre .2) (to .plan-from .ensures) _ _ _ (at .nudge .given .1) (jet .before .if1 .left) (jet .scaled-jet .ensures) (c .enum-told2 .given .1)
 
 hold-requires : tie.Need-hold-requires
 hold-requires c κs = search needs
@@ -77,7 +77,7 @@ returns-4 c =
     let jet = is .before .before in
     let at = probed jet in
     let to = planned at in
-    further _ _ _ _ (start to .args .held) _ (start to .pre .1) (start to .pre .2) (to .plan-from .ensures) _ _ _ (at .nudge .given .1) (jet .before .if1 .left) (jet .surface-jet .ensures) _ (is .jet .given .1) (by .before .hold .result) (by .before .hold .ensures) (by .judge .ensures) (c .enum-told3 .given .1)
+    further _ _ _ _ (start to .args .held) _ (start to .pre .1) (start to .pre .2) (to .plan-from .ensures) _ _ _ (at .nudge .given .1) (jet .before .if1 .left) (jet .scaled-jet .ensures) _ (is .jet .given .1) (by .before .hold .result) (by .before .hold .ensures) (by .judge .ensures) (c .enum-told3 .given .1)
 
 returns-5 : tie.Need-returns-5
 returns-5 c =
@@ -86,7 +86,7 @@ returns-5 c =
     let jet = is .before .before in
     let at = probed jet in
     let to = planned at in
-    last _ _ _ _ (start to .args .held) _ (start to .pre .1) (start to .pre .2) (to .plan-from .ensures) _ _ _ (at .nudge .given .1) (jet .before .if1 .left) (jet .surface-jet .ensures) _ (is .jet .given .1) (by .before .hold .result) (by .before .hold .ensures) (by .judge .ensures) (c .enum-told4 .given .1)
+    last _ _ _ _ (start to .args .held) _ (start to .pre .1) (start to .pre .2) (to .plan-from .ensures) _ _ _ (at .nudge .given .1) (jet .before .if1 .left) (jet .scaled-jet .ensures) _ (is .jet .given .1) (by .before .hold .result) (by .before .hold .ensures) (by .judge .ensures) (c .enum-told4 .given .1)
 
 returns-6 : tie.Need-returns-6
 returns-6 c =
@@ -95,7 +95,7 @@ returns-6 c =
     let jet = is .before .before in
     let at = probed jet in
     let to = planned at in
-    onward _ _ _ _ (start to .args .held) _ (start to .pre .1) (start to .pre .2) (to .plan-from .ensures) _ _ _ (at .nudge .given .1) (jet .before .if1 .left) (jet .surface-jet .ensures) _ (is .jet .given .1) (by .before .hold .result) (by .before .hold .ensures) (by .judge .ensures) (c .enum-told5 .given .1)
+    onward _ _ _ _ (start to .args .held) _ (start to .pre .1) (start to .pre .2) (to .plan-from .ensures) _ _ _ (at .nudge .given .1) (jet .before .if1 .left) (jet .scaled-jet .ensures) _ (is .jet .given .1) (by .before .hold .result) (by .before .hold .ensures) (by .judge .ensures) (c .enum-told5 .given .1)
 
 pub round-spec : {M : Type 1} → statement M
 round-spec =
@@ -107,7 +107,7 @@ round-spec =
     returns
     returns-2
     add-units
-    surface-jet-requires
+    scaled-jet-requires
     enum-known-jet
     enum-told-2
     returns-3

@@ -3,10 +3,6 @@ use borrow.Author.Needs.{needs}
 use Rattle.seeds.proofs.grid.square_of.Statement.{statement}
 use Rattle.seeds.proofs.grid.square_of.Tie as tie
 
--- src/grid.rt:41:20
-point-of-requires : tie.Need-point-of-requires
-point-of-requires c κs = search needs
-
 -- src/grid.rt:41:9
 sub-requires : tie.Need-sub-requires
 sub-requires c κs = search needs
@@ -17,7 +13,7 @@ dot-requires c κs = search needs
 
 -- src/grid.rt:38:1
 returns : tie.Need-returns
-returns c = simp (c .dot .ensures, c .before .sub .ensures, c .before .before .point-of .ensures)
+returns c = simp (c .dot .ensures, c .before .sub .ensures)
 
 pub square-of-spec : {M : Type 1} → statement M
-square-of-spec = tie.close (tie.spec point-of-requires sub-requires dot-requires returns)
+square-of-spec = tie.close (tie.spec sub-requires dot-requires returns)

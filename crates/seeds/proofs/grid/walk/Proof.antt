@@ -11,7 +11,7 @@ use Rattle.surface.specs.declared.Shape.{Shape}
 use Rattle.surface.specs.Surface.{surface, evaluateBy}
 use Rattle.surface.specs.SurfaceLaws.{accepted-surface}
 use Rattle.surface.specs.EvaluateLaws.{evaluate-finite}
-use Rattle.surface.specs.PatchLaws.{weights-lent, controls-lent}
+use Rattle.surface.specs.Scaled.{scaled-accepted}
 use Rattle.newton.specs.Run.{fromMark}
 use Rattle.seeds.specs.Grid.{startAt}
 use Rattle.seeds.specs.Insert.{held, Limits, kept}
@@ -20,41 +20,41 @@ use Rattle.seeds.specs.Table.{Held}
 use Rattle.seeds.specs.Walk.{spend}
 use Rattle.seeds.specs.WalkLaws.{Stands, Axes, rowsFrom, restFrom, walk-begins, row-begins, grid-ends, row-ends, row-spent, row-refused, row-goes}
 use Rattle.seeds.proofs.Places.{unmapped}
-use Rattle.seeds.proofs.TableSteps.{none-held, starting, evaluated-there}
+use Rattle.seeds.proofs.TableSteps.{none-held, seen, unseen}
 use Rattle.seeds.specs.Finite.{from-mark-number}
 use borrow.Author.Needs.{needs}
 use Rattle.seeds.proofs.grid.walk.Statement.{statement}
 use Rattle.seeds.proofs.grid.walk.Tie as tie
 
 abbrev by : Shape → List Float → List Float → List Float → List Float → Float → Float → Float → Evaluated
-by shape ku kv controls weights scale = evaluateBy (surface shape ku kv controls weights) scale
+by shape ku kv controls weights m = evaluateBy (surface shape ku kv controls weights) m
 
 abbrev Inv-loop : tie.InvT-loop
-Inv-loop shape ku kv controls weights scale mark budget u-at v-at rows columns table firsts net₀ refusal₀ taken₀ starts₀ limit₀ i u functions row held₀ j₀ net refusal taken starts limit column j =
-    let eval = by shape ku kv controls weights scale in
+Inv-loop shape ku kv controls weights scale mark budget u-at v-at rows columns bounded table firsts net₀ refusal₀ taken₀ starts₀ limit₀ i u values row held₀ j₀ net refusal taken starts limit column j =
+    let eval = by shape ku kv controls weights (scale .largest) in
     (i < rows) × (j ≤ columns) × Axes u-at v-at rows columns
     × Stands (spend budget (take rows u-at) (take columns v-at) (rowsFrom mark eval u-at v-at rows columns 0)) budget refusal taken starts (restFrom mark eval u-at v-at rows columns i j)
-    × Limits limit (held starts) × Held shape weights scale row column net
+    × Limits limit (held starts) × Held shape weights (scale .largest) row column net
 
 abbrev μ-loop : tie.MeasureT-loop
-μ-loop shape ku kv controls weights scale mark budget u-at v-at rows columns table firsts net₀ refusal₀ taken₀ starts₀ limit₀ i u functions row held₀ j₀ net refusal taken starts limit held j =
+μ-loop shape ku kv controls weights scale mark budget u-at v-at rows columns bounded table firsts net₀ refusal₀ taken₀ starts₀ limit₀ i u values row held₀ j₀ net refusal taken starts limit held j =
     columns - j
 
 abbrev Inv-grid : tie.InvT-grid
-Inv-grid shape ku kv controls weights scale mark budget u-at v-at rows columns table firsts net₀ refusal₀ taken₀ starts₀ limit₀ i₀ net refusal taken starts limit i =
-    let eval = by shape ku kv controls weights scale in
+Inv-grid shape ku kv controls weights scale mark budget u-at v-at rows columns bounded table firsts net₀ refusal₀ taken₀ starts₀ limit₀ i₀ net refusal taken starts limit i =
+    let eval = by shape ku kv controls weights (scale .largest) in
     (i ≤ rows) × Axes u-at v-at rows columns
     × Stands (spend budget (take rows u-at) (take columns v-at) (rowsFrom mark eval u-at v-at rows columns 0)) budget refusal taken starts (rowsFrom mark eval u-at v-at rows columns i)
     × Limits limit (held starts) × (length net ≡ 289)
 
 abbrev μ-grid : tie.MeasureT-grid
-μ-grid shape ku kv controls weights scale mark budget u-at v-at rows columns table firsts net₀ refusal₀ taken₀ starts₀ limit₀ i₀ net refusal taken starts limit i =
+μ-grid shape ku kv controls weights scale mark budget u-at v-at rows columns bounded table firsts net₀ refusal₀ taken₀ starts₀ limit₀ i₀ net refusal taken starts limit i =
     rows - i
 
 tabulate-requires : tie.Need-tabulate-requires Inv-loop μ-loop Inv-grid μ-grid
 tabulate-requires c κs =
     let a = c .before .before .before .before .before .before .before .before .before in
-    (accepted-surface _ (a .pre .0) .knots-v, a .pre .2, search needs, search needs)
+    (accepted-surface _ (scaled-accepted _ _ (a .pre .0)) .knots-v, λ b. a .pre .0 .bounded b .v, a .pre .2, search needs, search needs)
 
 no-starts-requires : tie.Need-no-starts-requires Inv-loop μ-loop Inv-grid μ-grid
 no-starts-requires c κs = search needs
@@ -79,7 +79,9 @@ array-read-u : tie.Need-array-read-u Inv-loop μ-loop Inv-grid μ-grid
 array-read-u c = search needs
 
 first-of-requires : tie.Need-first-of-requires Inv-loop μ-loop Inv-grid μ-grid
-first-of-requires c κs = (accepted-surface _ (c .before .before .before .before .before .before .before .before .before .before .before .before .before .before .pre .0) .knots-u, search needs)
+first-of-requires c κs =
+    let a = c .before .before .before .before .before .before .before .before .before .before .before .before .before .before in
+    (accepted-surface _ (scaled-accepted _ _ (a .pre .0)) .knots-u, λ b. a .pre .0 .bounded b .u, search needs)
 
 loop-holds : tie.Need-loop-holds Inv-loop μ-loop Inv-grid μ-grid
 loop-holds c =
@@ -96,47 +98,35 @@ mul-column c = search needs
 array-read-column : tie.Need-array-read-column Inv-loop μ-loop Inv-grid μ-grid
 array-read-column c = search needs
 
-mul-jet-at : tie.Need-mul-jet-at Inv-loop μ-loop Inv-grid μ-grid
-mul-jet-at c = search needs
+mul-v : tie.Need-mul-v Inv-loop μ-loop Inv-grid μ-grid
+mul-v c = search needs
 
-index-1-jet-at : tie.Need-index-1-jet-at Inv-loop μ-loop Inv-grid μ-grid
-index-1-jet-at c = search needs
+array-read-v : tie.Need-array-read-v Inv-loop μ-loop Inv-grid μ-grid
+array-read-v c = search needs
 
-jet-at-requires : tie.Need-jet-at-requires Inv-loop μ-loop Inv-grid μ-grid
-jet-at-requires c κs =
+mul-point-at : tie.Need-mul-point-at Inv-loop μ-loop Inv-grid μ-grid
+mul-point-at c = search needs
+
+index-1-point-at : tie.Need-index-1-point-at Inv-loop μ-loop Inv-grid μ-grid
+index-1-point-at c = search needs
+
+point-at-requires : tie.Need-point-at-requires Inv-loop μ-loop Inv-grid μ-grid
+point-at-requires c κs =
     let turn = c .before .before .before .before in
     let at = turn .before .loop in
     let u = turn .before .before in
     let tabled = u .before .before .before .before .before in
     let a = tabled .before .before .before .before .before .before .before .before .before .before in
-    (controls-lent _ (a .pre .0), weights-lent _ (a .pre .0), starting _ (a .pre .0) _ (u .first-of .last .1 .1 .1 .0) _ (u .first-of .ensures) (tabled .tabulate .ensures) (at .j) (turn .loop-test .taken), at .inv .5)
+    (a .pre .0, u .first-of .ensures, tabled .tabulate .ensures .known (at .j) (turn .loop-test .taken), at .inv .5)
 
-enum-known-jet : tie.Need-enum-known-jet Inv-loop μ-loop Inv-grid μ-grid
-enum-known-jet c = search needs
+enum-known-point : tie.Need-enum-known-point Inv-loop μ-loop Inv-grid μ-grid
+enum-known-point c = search needs
 
 enum-told : tie.Need-enum-told Inv-loop μ-loop Inv-grid μ-grid
 enum-told c = search needs
 
 square-of-requires : tie.Need-square-of-requires Inv-loop μ-loop Inv-grid μ-grid
 square-of-requires c κs = search needs
-
-mul-keep : tie.Need-mul-keep Inv-loop μ-loop Inv-grid μ-grid
-mul-keep c =
-    let turn = c .before .before .before .before .before .before .before .before .before .before in
-    let at = turn .before .loop in
-    let u = turn .before .before in
-    let tabled = u .before .before .before .before .before in
-    let a = tabled .before .before .before .before .before .before .before .before .before .before in
-    omega (arith, turn .loop-test .taken, a .pre .2)
-
-array-read-keep : tie.Need-array-read-keep Inv-loop μ-loop Inv-grid μ-grid
-array-read-keep c =
-    let turn = c .before .before .before .before .before .before .before .before .before .before in
-    let at = turn .before .loop in
-    let u = turn .before .before in
-    let tabled = u .before .before .before .before .before in
-    let a = tabled .before .before .before .before .before .before .before .before .before .before in
-    omega (arith, turn .loop-test .taken, a .pre .2)
 
 keep-requires : tie.Need-keep-requires Inv-loop μ-loop Inv-grid μ-grid
 keep-requires c κs =
@@ -147,8 +137,8 @@ keep-requires c κs =
     let u = turn .before .before in
     let tabled = u .before .before .before .before .before in
     let a = tabled .before .before .before .before .before .before .before .before .before .before in
-    let eval = evaluated-there _ (a .pre .0) _ (u .first-of .last .1 .1 .1 .0) _ (u .first-of .ensures) (tabled .tabulate .ensures) (at .j) (turn .loop-test .taken) (a .args .scale) (jet .jet-at .ensures .0 (a .args .ku .now) (a .args .kv .now)) in
-    let sound = square-sound _ _ _ (a .pre .3) _ _ _ (sym eval ∙ found .jet .given .1) _ (c .before .square-of .ensures) in
+    let p = seen _ (jet .point-at .ensures .0) (found .point .given .1) in
+    let sound = square-sound _ _ _ (a .pre .3) _ _ (p .jet) (p .found) _ (rw (p .point) at (c .before .square-of .ensures)) in
     (at .inv .3 .six, at .inv .3 .rising, sound .0, sound .1)
 
 add-j : tie.Need-add-j Inv-loop μ-loop Inv-grid μ-grid
@@ -172,19 +162,18 @@ loop-again c =
     let u = turn .before .before in
     let tabled = u .before .before .before .before .before in
     let a = tabled .before .before .before .before .before .before .before .before .before .before in
-    let eval = evaluated-there _ (a .pre .0) _ (u .first-of .last .1 .1 .1 .0) _ (u .first-of .ensures) (tabled .tabulate .ensures) (at .j) (turn .loop-test .taken) (a .args .scale) (jet .jet-at .ensures .0 (a .args .ku .now) (a .args .kv .now)) in
+    let p = seen _ (jet .point-at .ensures .0) (found .point .given .1) in
     let i = u .before .before .before .grid .i in
     let x = getD (a .args .us .at) i nan in
     let y = getD (a .args .vs .at) (at .j) nan in
-    let f = found .jet .given .0 .0 in
-    let square = c .before .square-of .ensures in
-    let next : TakenIn (a .args .mark) f square (at .starts) x y (c .if2 .starts) (c .if2 .limit) = ⊎-elim (λ w. rw (w .3, w .4) (taken-in (a .args .mark) f square (at .starts) x y (w .1 .result) (w .1 .ensures))) (λ w. rw (w .1, w .2) (left-out (a .args .mark) f square (at .starts) x y (at .limit) (at .inv .4) (at .inv .3 .six) (w .0 .left))) (c .if2 .came) in (
+    let square = rw (p .point) at (c .before .square-of .ensures) in
+    let next : TakenIn (a .args .mark) (p .jet) square (at .starts) x y (c .if2 .starts) (c .if2 .limit) = ⊎-elim (λ w. rw (w .3, w .4) (taken-in (a .args .mark) (p .jet) square (at .starts) x y (w .1 .result) (w .1 .ensures))) (λ w. rw (w .1, w .2) (left-out (a .args .mark) (p .jet) square (at .starts) x y (at .limit) (at .inv .4) (at .inv .3 .six) (w .0 .left))) (c .if2 .came) in (
       at .inv .0,
       omega (arith, turn .loop-test .taken),
       at .inv .2,
-      row-goes _ _ _ _ _ _ (at .inv .2) i _ _ _ _ _ (at .j) (at .inv .3) (turn .loop-test .taken) (jet .before .before .before .before .if1 .left) _ eval (from-mark-number _ _ _ (a .pre .3)) _ _ _ (found .jet .given .1) refl (next .taken, next .six),
+      row-goes _ _ _ _ _ _ (at .inv .2) i _ _ _ _ _ (at .j) (at .inv .3) (turn .loop-test .taken) (jet .before .before .before .before .if1 .left) _ refl (from-mark-number _ _ _ (a .pre .3)) _ _ _ (p .found) refl (next .taken, next .six),
       next .limits,
-      jet .jet-at .ensures .1,
+      jet .point-at .ensures .1,
     )
 
 add-i : tie.Need-add-i Inv-loop μ-loop Inv-grid μ-grid
@@ -217,8 +206,7 @@ returns-3 c =
     let u = turn .before .before in
     let tabled = u .before .before .before .before .before in
     let a = tabled .before .before .before .before .before .before .before .before .before .before in
-    let eval = evaluated-there _ (a .pre .0) _ (u .first-of .last .1 .1 .1 .0) _ (u .first-of .ensures) (tabled .tabulate .ensures) (at .j) (turn .loop-test .taken) (a .args .scale) (jet .jet-at .ensures .0 (a .args .ku .now) (a .args .kv .now)) in
-    (row-refused _ _ _ _ _ _ (at .inv .2) (u .before .before .before .grid .i) _ _ _ _ _ (at .j) (at .inv .3) (turn .loop-test .taken) (jet .before .before .before .before .if1 .left) _ eval (c .enum-told .given .1), at .inv .3 .six)
+    (row-refused _ _ _ _ _ _ (at .inv .2) (u .before .before .before .grid .i) _ _ _ _ _ (at .j) (at .inv .3) (turn .loop-test .taken) (jet .before .before .before .before .if1 .left) _ refl (unseen _ (jet .point-at .ensures .0) (c .enum-told .given .1)), at .inv .3 .six)
 
 pub walk-spec : {M : Type 1} → statement M
 walk-spec =
@@ -238,14 +226,14 @@ walk-spec =
     add-taken
     mul-column
     array-read-column
-    mul-jet-at
-    index-1-jet-at
-    jet-at-requires
-    enum-known-jet
+    mul-v
+    array-read-v
+    mul-point-at
+    index-1-point-at
+    point-at-requires
+    enum-known-point
     enum-told
     square-of-requires
-    mul-keep
-    array-read-keep
     keep-requires
     add-j
     loop-less

@@ -1,79 +1,62 @@
 -- The values before the j-th have their functions, and the rows of those after it are empty.
 use mathlib.Core.Path.{_≡_}
-use mathlib.Core.List.{[]}
-use Prim.Native.Nat.{ℕ, _-_, _≤_, _<_}
+use Prim.Native.Nat.{_-_, _≤_, _<_}
 use native.Mathlib.Omega.{arith}
-use lib.ListN.{getD}
-use Rattle.basis.specs.Rows.{blank}
 use Rattle.seeds.specs.Table.{Tabled}
-use Rattle.seeds.proofs.TableSteps.{none-tabled, still-blank, one-tabled, rest-blank}
+use Rattle.seeds.proofs.TableSteps.{Blank, none-tabled, all-blank, one-tabled, rest-blank}
 use borrow.Author.Needs.{needs}
 use Rattle.seeds.proofs.table.tabulate.Statement.{statement}
 use Rattle.seeds.proofs.table.tabulate.Tie as tie
 
 abbrev Inv-loop : tie.InvT-loop
-Inv-loop knots counts values count table₀ firsts₀ j₀ table firsts j =
-    (j ≤ count) × Tabled counts knots values j table firsts × ((k : ℕ) → j ≤ k → k < 193 → getD table k [] ≡ blank)
+Inv-loop knots counts bounded values count table₀ firsts₀ j₀ table firsts j = (j ≤ count) × Tabled bounded counts knots values j table firsts × Blank table j
 
 abbrev μ-loop : tie.MeasureT-loop
-μ-loop knots counts values count table₀ firsts₀ j₀ table firsts j = count - j
+μ-loop knots counts bounded values count table₀ firsts₀ j₀ table firsts j = count - j
 
--- src/table.rt:45:5
 loop-holds : tie.Need-loop-holds Inv-loop μ-loop
 loop-holds c =
     let pre = c .before .pre in
-    let a = c .before .args in
-    (omega arith, none-tabled _ _ _ (pre .2) (pre .3), λ k l. still-blank (a .counts) (a .knots .now) (a .values .now) (pre .2) k)
+    (omega arith, none-tabled _ _ _ _ (pre .3) (pre .4), all-blank (pre .3) 0)
 
--- src/table.rt:46:45
 mul-first-of : tie.Need-mul-first-of Inv-loop μ-loop
 mul-first-of c = search needs
 
--- src/table.rt:46:45
 element-copy-out-first-of : tie.Need-element-copy-out-first-of Inv-loop μ-loop
 element-copy-out-first-of c = search needs
 
--- src/table.rt:46:56
 mul-first-of-2 : tie.Need-mul-first-of-2 Inv-loop μ-loop
 mul-first-of-2 c = search needs
 
--- src/table.rt:46:56
 index-1-first-of : tie.Need-index-1-first-of Inv-loop μ-loop
 index-1-first-of c = search needs
 
--- src/table.rt:46:21
 first-of-requires : tie.Need-first-of-requires Inv-loop μ-loop
 first-of-requires c κs =
     let turn = c .before .before in
     let l = turn .before .loop in
     let pre = turn .before .before .before .pre in
-    (pre .0, l .inv .2 (l .j) (omega arith) (omega (arith, turn .loop-test .taken, pre .1)))
+    (pre .0, pre .1, l .inv .2 (l .j) (omega arith) (omega (arith, turn .loop-test .taken, pre .2)))
 
--- src/table.rt:46:9
 mul-firsts : tie.Need-mul-firsts Inv-loop μ-loop
 mul-firsts c = search needs
 
--- src/table.rt:46:9
 element-write-firsts : tie.Need-element-write-firsts Inv-loop μ-loop
 element-write-firsts c = search needs
 
--- src/table.rt:45:9
 add-j : tie.Need-add-j Inv-loop μ-loop
 add-j c = search needs
 
--- src/table.rt:45:5
 loop-less : tie.Need-loop-less Inv-loop μ-loop
 loop-less c = search needs
 
--- src/table.rt:45:5
 loop-again : tie.Need-loop-again Inv-loop μ-loop
 loop-again c =
     let turn = c .before .before .before in
     let l = turn .before .loop in
-    let room : l .j < 193 = omega (arith, turn .loop-test .taken, turn .before .before .before .pre .1) in
-    (omega arith, one-tabled _ _ _ (l .inv .1) room _ _ (c .first-of .ensures), rest-blank _ _ _ (l .inv .1) room _ (c .first-of .result) (l .inv .2))
+    let room : l .j < 193 = omega (arith, turn .loop-test .taken, turn .before .before .before .pre .2) in
+    (omega arith, one-tabled _ _ _ _ (l .inv .1) room _ _ (c .first-of .ensures), rest-blank (l .table) (l .j) _ (l .inv .2))
 
--- src/table.rt:34:1
 returns : tie.Need-returns Inv-loop μ-loop
 returns c =
     let l = c .before .loop in

@@ -1,0 +1,52 @@
+-- The sizes of a surface's numbers, as their tests tell of them. Assumes nothing.
+use mathlib.Core.Path.{_≡_}
+use mathlib.Core.Bool.{Bool, true, false, _&&_, and-eq-true-iff}
+use mathlib.Core.Logic.{⊎-elim}
+use mathlib.Core.List.{List}
+use Prim.Native.Nat.{ℕ, _+_, _<_}
+use native.Mathlib.Nat.{eq-or-lt-of-le}
+use native.Mathlib.Omega.{arith}
+use lib.Dec.{lit≤}
+use lib.IntN.{pos}
+use lib.ListN.{length, getD}
+use lib.Ieee.{Float, nan, binary64, le, ofBits}
+use Rattle.float64.specs.Functions.{abs}
+use Rattle.float64.specs.Magnitude.{Mag, within, mag-of-le}
+use Rattle.spline.specs.Knots.{refusalOfKnots}
+use Rattle.basis.specs.Magnitude as Basis
+use Rattle.surface.specs.declared.Checked.the-variants as Check
+use Rattle.surface.specs.declared.Scaling.{Scaling}
+use Rattle.surface.specs.Surface.{Surface, axisU, axisV, checked}
+use Rattle.surface.specs.SurfaceLaws.{accepted-surface, checked-scale}
+use Rattle.surface.specs.Magnitude.{Bounded}
+use Rattle.surface.specs.Scaled.{Scaled}
+
+-- 2 ^ 100
+abbrev mostSize : Float
+mostSize = ofBits binary64 0x4630_0000_0000_0000
+
+most-mag : Mag 1174 mostSize
+unfolding ofBits
+most-mag = record { most = within false 1 (pos 100) (lit≤ tt) }
+
+-- those before i are within, where t tells so
+abbrev pub Told : List Float → ℕ → Bool → Type 0
+Told cs i t = t ≡ true → (n : ℕ) → n < i → Mag 1174 (getD cs n nan)
+
+pub told-more : (cs : List Float) (i : ℕ) (t : Bool) {x : Float} → Told cs i t → x ≡ abs (getD cs i nan) → Told cs (i + 1) (t && le x mostSize)
+told-more cs i t {x} h e b n l =
+    let z = and-eq-true-iff t (le x mostSize) .0 b in
+    let last : Mag 1174 (getD cs i nan) = mag-of-le (getD cs i nan) most-mag (rw e at (z .1)) in
+    let below : n < i + 1 = l in
+    ⊎-elim (λ q. rw q last) (λ q. h (z .0) n q) (eq-or-lt-of-le (omega arith))
+
+pub scaled : (s : Surface) (m : Float) (p q r : Bool) → (refusalOfKnots (axisU s) ≡ 0 → p ≡ true → Basis.Bounded (axisU s)) → (refusalOfKnots (axisV s) ≡ 0 → q ≡ true → Basis.Bounded (axisV s)) → Told (s .controls) (length (s .controls)) r
+    → checked s ≡ Check.Scale m → Scaled s (record { largest = m; bounded = p && q && r })
+scaled s m p q r hu hv hc h = record {
+  checked = h;
+  bounded = λ b.
+      let a = accepted-surface s (checked-scale s m h .0) in
+      let y = and-eq-true-iff (p && q) r .0 b in
+      let z = and-eq-true-iff p q .0 (y .0) in
+      record { u = hu (a .knots-u) (z .0); v = hv (a .knots-v) (z .1); controls = hc (y .1) };
+}

@@ -1,0 +1,59 @@
+-- The loop's invariant: those before i are within, where all tells so.
+use mathlib.Core.Path.{_≡_}
+use Prim.Native.Nat.{_≤_, _-_}
+use native.Mathlib.Omega.{arith}
+use lib.ListN.{length}
+use Rattle.surface.proofs.SizeSteps.{Told, told-more}
+use borrow.Author.Needs.{needs}
+use Rattle.surface.proofs.sizes.all_within.Statement.{statement}
+use Rattle.surface.proofs.sizes.all_within.Tie as tie
+
+abbrev Inv-loop : tie.InvT-loop
+Inv-loop controls all₀ i₀ i-end all i = (i ≤ length controls) × (i-end ≡ length controls) × Told controls i all
+
+abbrev μ-loop : tie.MeasureT-loop
+μ-loop controls all₀ i₀ i-end all i = length controls - i
+
+loop-holds : tie.Need-loop-holds Inv-loop μ-loop
+loop-holds c = (omega arith, search needs, λ t n l. absurd (omega arith))
+
+mul-abs : tie.Need-mul-abs Inv-loop μ-loop
+mul-abs c = search needs
+
+shared-slice-read-abs : tie.Need-shared-slice-read-abs Inv-loop μ-loop
+shared-slice-read-abs c = search needs
+
+abs-requires : tie.Need-abs-requires Inv-loop μ-loop
+abs-requires c κs = search needs
+
+add-i : tie.Need-add-i Inv-loop μ-loop
+add-i c = search needs
+
+loop-less : tie.Need-loop-less Inv-loop μ-loop
+loop-less c = search needs
+
+loop-again : tie.Need-loop-again Inv-loop μ-loop
+loop-again c =
+    let l = c .before .before .before .loop in
+    (omega arith, omega arith, told-more (c .before .before .before .before .before .args .controls .now) (l .i) (l .all) (l .inv .2) (c .abs .ensures))
+
+returns : tie.Need-returns Inv-loop μ-loop
+returns c =
+    let l = c .before .loop in
+    let e : l .i ≡ length (c .before .before .before .args .controls .now) = omega arith in
+    rw e at (l .inv .2)
+
+pub all-within-spec : {M : Type 1} → statement M
+all-within-spec =
+    tie.close
+    (tie.spec
+    Inv-loop
+    μ-loop
+    loop-holds
+    mul-abs
+    shared-slice-read-abs
+    abs-requires
+    add-i
+    loop-less
+    loop-again
+    returns)
