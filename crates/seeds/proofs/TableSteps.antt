@@ -14,7 +14,7 @@ use Rattle.float64.specs.Operators.{0·}
 use Rattle.spline.specs.Knots.{refusalOfKnots}
 use Rattle.spline.specs.KnotLaws.{accepted}
 use Rattle.basis.specs.declared.Place.{Place}
-use Rattle.basis.specs.Parts.{Part, valueOf, partOf, shownPart}
+use Rattle.basis.specs.Parts.{valueOf, partOf, shownPart}
 use Rattle.vector3.specs.declared.Vector3.{Vector3}
 use Rattle.patch.specs.declared.Sum.{Sum}
 use Rattle.patch.specs.declared.Jet.{Jet}

@@ -1,12 +1,12 @@
 -- What is written to a net of weights, and the sums by what stands in it. Assumes nothing.
 use mathlib.Core.Path.{_≡_, refl, sym, ap, _∙_}
 use mathlib.Core.List.{List, [], _∷_, _++_, append-assoc, append-nil}
-use Prim.Native.Nat.{ℕ, zero, suc, _+_, _-_, _*_, _≤_, _<_}
+use Prim.Native.Nat.{ℕ, suc, _+_, _-_, _*_, _≤_, _<_}
 use native.Mathlib.Nat.{add-suc, add-zero, suc-mul, mul-le-mul-right, mul-le-mul-left}
 use native.Mathlib.Numerals.{add-one}
 use native.Mathlib.Omega.{arith}
-use lib.ListN.{length, getD, set, take, drop, take-append-drop, drop-of-length-le}
-use lib.Seq.{take-suc-set, take-set-lt, drop-set-lt, drop-cons, drop-drop, getD-drop, getD-take, drop-at, length-take-le}
+use lib.ListN.{length, getD, set, take, drop, drop-of-length-le}
+use lib.Seq.{take-suc-set, take-set-lt, drop-set-lt, drop-cons, drop-drop, getD-drop, getD-take, length-take-le}
 use lib.Ieee.{Float, nan}
 use Rattle.float64.specs.Operators.{_⊘_, 0·}
 use Rattle.vector3.specs.declared.Vector3.{Vector3}

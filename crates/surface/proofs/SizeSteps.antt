@@ -9,13 +9,11 @@ use native.Mathlib.Omega.{arith}
 use lib.Dec.{lit≤}
 use lib.IntN.{pos}
 use lib.ListN.{length, getD}
-use lib.Ieee.{Float, nan, binary64, le, ofBits}
-use Rattle.float64.specs.Functions.{abs}
-use Rattle.float64.specs.Magnitude.{Mag, within, mag-of-le}
+use lib.Ieee.{Float, nan, binary64, neg, le, ofBits}
+use Rattle.float64.specs.Magnitude.{Mag, within, mag-neg, mag-between}
 use Rattle.spline.specs.Knots.{refusalOfKnots}
 use Rattle.basis.specs.Magnitude as Basis
 use Rattle.surface.specs.declared.Checked.the-variants as Check
-use Rattle.surface.specs.declared.Scaling.{Scaling}
 use Rattle.surface.specs.Surface.{Surface, axisU, axisV, checked}
 use Rattle.surface.specs.SurfaceLaws.{accepted-surface, checked-scale}
 use Rattle.surface.specs.Magnitude.{Bounded}
@@ -33,10 +31,12 @@ most-mag = record { most = within false 1 (pos 100) (lit≤ tt) }
 abbrev pub Told : List Float → ℕ → Bool → Type 0
 Told cs i t = t ≡ true → (n : ℕ) → n < i → Mag 1174 (getD cs n nan)
 
-pub told-more : (cs : List Float) (i : ℕ) (t : Bool) {x : Float} → Told cs i t → x ≡ abs (getD cs i nan) → Told cs (i + 1) (t && le x mostSize)
-told-more cs i t {x} h e b n l =
-    let z = and-eq-true-iff t (le x mostSize) .0 b in
-    let last : Mag 1174 (getD cs i nan) = mag-of-le (getD cs i nan) most-mag (rw e at (z .1)) in
+pub told-more : (cs : List Float) (i : ℕ) (t : Bool) → Told cs i t → (let x = getD cs i nan in Told cs (i + 1) (t && le (neg mostSize) x && le x mostSize))
+told-more cs i t h b n l =
+    let x = getD cs i nan in
+    let y = and-eq-true-iff (t && le (neg mostSize) x) (le x mostSize) .0 b in
+    let z = and-eq-true-iff t (le (neg mostSize) x) .0 (y .0) in
+    let last : Mag 1174 x = mag-between x (mag-neg most-mag) most-mag (z .1) (y .1) in
     let below : n < i + 1 = l in
     ⊎-elim (λ q. rw q last) (λ q. h (z .0) n q) (eq-or-lt-of-le (omega arith))
 

@@ -1,20 +1,14 @@
 -- The loops of an evaluation, each a fold of so many turns, and what of a surface the largest weight reads. Assumes nothing.
 use mathlib.Core.Path.{_≡_, refl, sym, ap, _∙_}
-use mathlib.Core.List.{List, [], _∷_}
-use Prim.Native.Nat.{ℕ, zero, suc, _+_, _-_, _*_, _≤_, _<_}
+use mathlib.Core.List.{List, []}
+use Prim.Native.Nat.{ℕ, suc, _+_, _-_, _*_, _≤_, _<_}
 use native.Mathlib.Nat.{add-suc, suc-mul, mul-le-mul-right}
 use native.Mathlib.Numerals.{add-one}
 use native.Mathlib.Omega.{arith}
-use lib.ListN.{length, getD, length-replicate}
-use lib.Ieee.{Float, nan}
-use Rattle.float64.specs.Operators.{_⊘_}
+use lib.ListN.{length-replicate}
+use lib.Ieee.{Float}
 use Rattle.float64.specs.Functions.{max}
-use Rattle.vector3.specs.declared.Vector3.{Vector3}
-use Rattle.basis.specs.declared.Basis.{Basis}
-use Rattle.basis.specs.Basis.{Three, three, threes}
-use Rattle.patch.specs.declared.Sums.{Sums}
-use Rattle.patch.specs.Patch.{with}
-use Rattle.surface.specs.Surface.{Surface, weightAt, pointAt, heaviestAlong, heaviest, along, over}
+use Rattle.surface.specs.Surface.{Surface, weightAt, heaviestAlong, heaviest}
 use Rattle.surface.specs.Lent.{lent, counted, Within}
 use Rattle.surface.specs.NetLaws.{heaviest-along-lent}
 

@@ -1,5 +1,5 @@
 -- An evaluation of a bounded surface by the values and first derivatives of the functions, which stand in a row each. Assumes nothing.
-use mathlib.Core.Path.{_≡_, refl, sym, ap, _∙_}
+use mathlib.Core.Path.{_≡_, sym, ap, _∙_}
 use mathlib.Core.Bool.{true}
 use mathlib.Core.List.{List, map}
 use Prim.Native.Nat.{ℕ, suc, _+_, _*_, _≤_, _<_}
@@ -12,7 +12,7 @@ use Rattle.spline.specs.Knots.{refusalOfKnots}
 use Rattle.basis.specs.declared.Place.{Place}
 use Rattle.basis.specs.Basis.{Three, Sample, refused, sample}
 use Rattle.basis.specs.BasisLaws.{support}
-use Rattle.basis.specs.Parts.{valueOf, firstOf, part, partOf, shownPart}
+use Rattle.basis.specs.Parts.{valueOf, firstOf, partOf, shownPart}
 use Rattle.patch.specs.declared.Sum.{Sum}
 use Rattle.patch.specs.declared.Sums.{Sums}
 use Rattle.patch.specs.declared.Evaluated.the-variants.{Found}

@@ -1,7 +1,6 @@
 -- What holds of a surface that passed its checks, with how it is to be evaluated. Assumes nothing.
 use mathlib.Core.Path.{_≡_}
 use mathlib.Core.Bool.{true}
-use lib.Ieee.{Float}
 use Rattle.surface.specs.declared.Checked.the-variants as Check
 use Rattle.surface.specs.declared.Scaling.{Scaling}
 use Rattle.surface.specs.Surface.{Surface, checked, refusalOfSurface, scaleOf}

@@ -1,7 +1,6 @@
 // Whether the sizes of a surface's numbers rule an overflow out.
 use crate::Scaling;
 use basis::bounded;
-use float64::abs;
 ghost use mathlib.Core.Path.{_≡_};
 ghost use mathlib.Core.Bool.{true};
 ghost use mathlib.Core.List.{List};
@@ -17,12 +16,14 @@ ghost use Rattle.surface.specs.Scaled.{Scaled};
 // 2^100.
 const MOST_SIZE: f64 = 1.2676506002282294e30;
 
+// By two comparisons, which are made of several at a time.
 fn all_within(controls: &[f64]) -> bool
     ensures { λ r. ⌜ (r ≡ true → (n : ℕ) → n < length (now (controls .entry)) → Mag 1174 (getD (now (controls .entry)) n nan)) ⌝ }
 {
     let mut all = true;
     for i in 0..controls.len() {
-        all = all & (abs(controls[i]) <= MOST_SIZE);
+        let x = controls[i];
+        all = all & (-MOST_SIZE <= x) & (x <= MOST_SIZE);
     }
     all
 }

@@ -1,5 +1,5 @@
 -- Both invariants say what holds between two evaluations, and that the outcome of the whole is that of what is left.
-use mathlib.Core.Path.{_≡_, refl, sym, _∙_}
+use mathlib.Core.Path.{_≡_, refl}
 use mathlib.Core.Logic.{⊎-elim}
 use Prim.Native.Nat.{_≤_, _<_, _-_}
 use mathlib.Core.List.{List}
@@ -10,11 +10,8 @@ use Rattle.patch.specs.declared.Evaluated.{Evaluated}
 use Rattle.surface.specs.declared.Shape.{Shape}
 use Rattle.surface.specs.Surface.{surface, evaluateBy}
 use Rattle.surface.specs.SurfaceLaws.{accepted-surface}
-use Rattle.surface.specs.EvaluateLaws.{evaluate-finite}
 use Rattle.surface.specs.Scaled.{scaled-accepted}
-use Rattle.newton.specs.Run.{fromMark}
-use Rattle.seeds.specs.Grid.{startAt}
-use Rattle.seeds.specs.Insert.{held, Limits, kept}
+use Rattle.seeds.specs.Insert.{held, Limits}
 use Rattle.seeds.specs.LimitLaws.{no-limit, square-sound, TakenIn, taken-in, left-out}
 use Rattle.seeds.specs.Table.{Held}
 use Rattle.seeds.specs.Walk.{spend}

@@ -2,7 +2,6 @@
 use native.Mathlib.Omega.{arith}
 use borrow.Author.Tests.{not-false}
 use Rattle.seeds.proofs.TableSteps.{known, start-fits}
-use borrow.Author.Needs.{needs}
 use Rattle.seeds.proofs.table.first_of.Statement.{statement}
 use Rattle.seeds.proofs.table.first_of.Tie as tie
 

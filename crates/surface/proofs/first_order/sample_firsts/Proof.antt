@@ -1,5 +1,4 @@
 -- The functions at the parameter as it wraps.
-use borrow.Author.Needs.{needs}
 use Rattle.surface.proofs.first_order.sample_firsts.Statement.{statement}
 use Rattle.surface.proofs.first_order.sample_firsts.Tie as tie
 

@@ -1,5 +1,4 @@
 -- The functions at the parameter as it wraps.
-use borrow.Author.Needs.{needs}
 use Rattle.surface.proofs.jets.sample.Statement.{statement}
 use Rattle.surface.proofs.jets.sample.Tie as tie
 

@@ -17,14 +17,11 @@ abbrev μ-loop : tie.MeasureT-loop
 loop-holds : tie.Need-loop-holds Inv-loop μ-loop
 loop-holds c = (omega arith, search needs, λ t n l. absurd (omega arith))
 
-mul-abs : tie.Need-mul-abs Inv-loop μ-loop
-mul-abs c = search needs
+mul-x : tie.Need-mul-x Inv-loop μ-loop
+mul-x c = search needs
 
-shared-slice-read-abs : tie.Need-shared-slice-read-abs Inv-loop μ-loop
-shared-slice-read-abs c = search needs
-
-abs-requires : tie.Need-abs-requires Inv-loop μ-loop
-abs-requires c κs = search needs
+shared-slice-read-x : tie.Need-shared-slice-read-x Inv-loop μ-loop
+shared-slice-read-x c = search needs
 
 add-i : tie.Need-add-i Inv-loop μ-loop
 add-i c = search needs
@@ -34,13 +31,14 @@ loop-less c = search needs
 
 loop-again : tie.Need-loop-again Inv-loop μ-loop
 loop-again c =
-    let l = c .before .before .before .loop in
-    (omega arith, omega arith, told-more (c .before .before .before .before .before .args .controls .now) (l .i) (l .all) (l .inv .2) (c .abs .ensures))
+    let at = c .before .before in
+    let l = at .loop in
+    (omega arith, omega arith, told-more (at .before .args .controls .now) (l .i) (l .all) (l .inv .2))
 
 returns : tie.Need-returns Inv-loop μ-loop
 returns c =
     let l = c .before .loop in
-    let e : l .i ≡ length (c .before .before .before .args .controls .now) = omega arith in
+    let e : l .i ≡ length (c .before .before .args .controls .now) = omega arith in
     rw e at (l .inv .2)
 
 pub all-within-spec : {M : Type 1} → statement M
@@ -50,9 +48,8 @@ all-within-spec =
     Inv-loop
     μ-loop
     loop-holds
-    mul-abs
-    shared-slice-read-abs
-    abs-requires
+    mul-x
+    shared-slice-read-x
     add-i
     loop-less
     loop-again
