@@ -6,6 +6,9 @@ use placing::raw::{self, Lent};
 
 pub const TOLERANCE: f64 = 1e-6;
 
+/// 2^101: beyond the bound on coordinates under which second derivatives may be left out.
+pub const BEYOND: f64 = 2535301200456458802993406410752.;
+
 pub fn placed(lent: &Lent, mark: Point, search: &Search) -> [f64; 2] {
     let (mut budget, mut pair) = ([u64::MAX], [0.; 2]);
     let hint = search.hint.as_ref().map_or(&[][..], |hint| &hint[..]);

@@ -1,6 +1,8 @@
 //! How the time of an evaluation grows with the degree, and that of a first placing with the grid
 //! and with the controls beside it; and how long a job can take.
-use bench::cases::{along, built, bumpy, full_job, lent, on, placed, room_for_marks, search};
+use bench::cases::{
+    BEYOND, along, built, bumpy, full_job, lent, on, placed, room_for_marks, scaled, search,
+};
 use bench::{REPEATS, median, timed};
 use oracle::calls::{Point, Surface};
 use placing::raw;
@@ -15,7 +17,7 @@ fn main() {
         evaluation(3, controls);
     }
     println!();
-    println!("{:<44} {:>12}", "a first placing", "us");
+    println!("{:<44} {:>12} {:>12}", "a first placing", "us", "plain, us");
     for controls in [4, 7, 12, 26, 50, 100, 300] {
         placing(3, controls);
     }
@@ -24,7 +26,10 @@ fn main() {
     }
     placing(16, 63);
     println!();
-    println!("{:<44} {:>12}", "the longest job of a degree", "s");
+    println!(
+        "{:<44} {:>12} {:>12}",
+        "the longest job of a degree", "s", "plain, s"
+    );
     for degree in [1, 2, 4, 8, 12, 16] {
         job(degree);
     }
@@ -43,17 +48,22 @@ fn evaluation(degree: usize, controls: usize) {
     println!("{name:<44} {:>12.0}", repeated(&pairs, call));
 }
 
+/// On the surface, and on one beyond the bound on coordinates, which is evaluated the plain way.
 fn placing(degree: usize, controls: usize) {
     let surface = bumpy(degree, controls);
-    let shell = built(&surface);
-    let marks: Vec<Point> = along(2).map(|at| on(&shell, at)).collect();
-    let (lent, none) = (lent(&surface), search(None));
-    let call = |mark: &Point| placed(&lent, *mark, &none)[0];
     let name = format!(
         "degree {degree}, {controls} by {controls} controls, {0} by {0} grid",
         values(&surface)
     );
-    println!("{name:<44} {:>12.0}", repeated(&marks, call) / 1000.);
+    let [quick, plain] = [1., BEYOND].map(|factor| first(&scaled(&surface, factor)) / 1000.);
+    println!("{name:<44} {quick:>12.0} {plain:>12.0}");
+}
+
+fn first(surface: &Surface) -> f64 {
+    let shell = built(surface);
+    let marks: Vec<Point> = along(2).map(|at| on(&shell, at)).collect();
+    let (lent, none) = (lent(surface), search(None));
+    repeated(&marks, |mark: &Point| placed(&lent, *mark, &none)[0])
 }
 
 /// Every mark off the surface by more than the tolerance, so that no hint ends a search: the whole
@@ -65,14 +75,18 @@ fn job(degree: usize) {
     };
     let controls = (degree + 1..=31).max_by_key(work).expect("some fit");
     let surface = bumpy(degree, controls);
-    let file = full_job(&surface, 1.);
-    let start = Instant::now();
-    let printout = placing::job(&file);
-    let took = start.elapsed().as_secs_f64();
-    let marks = printout.iter().filter(|&&byte| byte == b'\n').count() - 1;
-    assert_eq!(marks, room_for_marks(&surface), "every mark is placed");
+    let marks = room_for_marks(&surface);
     let name = format!("degree {degree}, {controls} by {controls} controls, {marks} marks");
-    println!("{name:<44} {took:>12.2}");
+    let [quick, plain] = [1., BEYOND].map(|factor| {
+        let file = full_job(&scaled(&surface, factor), factor);
+        let start = Instant::now();
+        let printout = placing::job(&file);
+        let took = start.elapsed().as_secs_f64();
+        let lines = printout.iter().filter(|&&byte| byte == b'\n').count();
+        assert_eq!(lines, marks + 1, "every mark is placed");
+        took
+    });
+    println!("{name:<44} {quick:>12.2} {plain:>12.2}");
 }
 
 /// How many values the grid has on an axis, by document 01.

@@ -5,7 +5,7 @@
 #[path = "../sisl.rs"]
 mod sisl;
 
-use bench::cases::{TOLERANCE, along, built, bumpy, lent, on, placed, scaled, search};
+use bench::cases::{BEYOND, TOLERANCE, along, built, bumpy, lent, on, placed, scaled, search};
 use bench::{compare, heading};
 use oracle::calls::{Point, Search, Surface};
 use oracle::row;
@@ -15,8 +15,7 @@ fn main() {
     let square = Surface::square();
     let twelve = bumpy(3, 12);
     let sixteen = bumpy(16, 25);
-    // Beyond the bound on coordinates under which second derivatives may be left out.
-    let huge = scaled(&twelve, 2f64.powi(101));
+    let huge = scaled(&twelve, BEYOND);
     heading("Rust");
     firsts("Square", &square, 100);
     firsts("bicubic, 12 by 12", &twelve, 10);
