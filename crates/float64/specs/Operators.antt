@@ -1,4 +1,4 @@
--- Short names of binary64's operators, and every float constant that a definition of this repository names. Definitions only.
+-- Short names of binary64's operators, and the float constants that definitions name, but for those of a bound, which stand beside it. Definitions only.
 use Prim.Native.Nat.{ℕ}
 use mathlib.Core.Bool.{false}
 use lib.Ieee.{Float, binary64, add, sub, mul, div, round, ofBits}
