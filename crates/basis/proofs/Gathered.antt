@@ -10,13 +10,9 @@ use lib.ListN.{length, getD, replicate, getD-replicate}
 use lib.Ieee.{Float, nan}
 use borrow.Author.Tests.{not-true, not-false, le-leb, eq-eqb, ne-eqb, eqb-true, eqb-false}
 use Rattle.float64.specs.Operators.{0·, 1·}
-use Rattle.spline.specs.Knots.{Axis}
-use Rattle.spline.specs.declared.parameter.KnotSide.{KnotSide}
 use Rattle.basis.specs.declared.Basis.{Basis}
-use Rattle.basis.specs.declared.Spot.{Spot}
-use Rattle.basis.specs.declared.Spot.the-variants.{From, Nowhere}
-use Rattle.basis.specs.Basis.{Cell, none, cell, blend, N, row, refused, sample, joined, gathered, sampleAt, basisAt, threes, shown}
-use Rattle.basis.specs.Rows.{Rows, blank, entry, Shaped, Columns, Broken, Raised, basisOf, Located}
+use Rattle.basis.specs.Basis.{Cell, none, cell, blend, N, row, refused, sample, joined, gathered, threes, shown}
+use Rattle.basis.specs.Rows.{Rows, blank, entry, Shaped, Columns, Broken, Raised, basisOf}
 use Rattle.basis.proofs.Rows.{by, cells, put, shaped, here, other-row, other-column, E}
 
 -- ---- a function that is none
@@ -124,20 +120,3 @@ module _ (ks : List Float) (start p : ℕ) (u : Float) (small : p ≤ 16) where
       let q : start + 0 ≡ start = omega arith in
       sym (columns-gathered rows h (suc p) 0 (omega arith)) ∙ ap (λ (i : ℕ). gathered start (row ks u (start + p) p (suc p) i)) q
   shows false rows h = sym (none-gathered ks u (start + p) start p (h .index) (h .missing) (suc p) start (omega (arith, h .high)) (omega (arith, h .low)))
-
--- ---- what is found of a parameter
-
-module _ (a : Axis) (side : KnotSide) (u : Float) (s : Spot) (h : Located a side u s) where
-  pub nowhere : s ≡ Nowhere → basisAt a side u ≡ refused
-  unfolding basisAt sampleAt
-  nowhere e = simp (subst (Located a side u) e h)
-
-  module _ {i : ℕ} {t : Float} (e : s ≡ From i t) where
-    pub found : Located a side u (From i t)
-    found = subst (Located a side u) e h
-
-    pub sampled : basisAt a side u ≡ gathered i (row (a .knots) t (i + a .degree) (a .degree) (suc (a .degree)) i)
-    unfolding basisAt sampleAt
-    sampled =
-        let q : i + a .degree - a .degree ≡ i = omega arith in
-        simp (found .0, found .1, q)

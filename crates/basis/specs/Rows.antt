@@ -7,15 +7,10 @@ use lib.ListN.{length, getD, replicate}
 use lib.Ieee.{Float, nan, eq}
 use Rattle.float64.specs.Operators.{_⊕_, _⊖_, _⊗_, _⊘_, 0·}
 use Rattle.float64.specs.Functions.{isFinite}
-use Rattle.spline.specs.Knots.{Axis, low, high, snapped, spanAt}
-use Rattle.spline.specs.declared.parameter.KnotSide.{KnotSide}
-use Rattle.spline.specs.declared.parameter.Snapped.the-variants.{At, Outside}
 use Rattle.basis.specs.Basis.{Cell, none, cell, checked, N}
 use Rattle.basis.specs.declared.Basis.{Basis}
 use Rattle.basis.specs.declared.Entry.{Entry}
 use Rattle.basis.specs.declared.Place.{Place}
-use Rattle.basis.specs.declared.Spot.{Spot}
-use Rattle.basis.specs.declared.Spot.the-variants.{From, Nowhere}
 use Rattle.basis.specs.declared.Term.{Term}
 
 abbrev pub Rows : Type 0
@@ -80,8 +75,3 @@ Raised ks u j d i false rows = Broken ks u j d
 
 abbrev pub basisOf : Place → Rows → Basis
 basisOf p rows = record { found = p .found; start = p .start; values = getD rows 0 []; firsts = getD rows 1 []; seconds = getD rows 2 [] }
-
--- where u lies: it snaps to t, in the span i + degree, whose functions are those of the controls from i on; or it is outside
-abbrev pub Located : Axis → KnotSide → Float → Spot → Type 0
-Located a side u (From i t) = (snapped (low a) (high a) u ≡ At t) × (spanAt a side t ≡ i + a .degree) × (i + a .degree < a .controls)
-Located a side u Nowhere = snapped (low a) (high a) u ≡ Outside

@@ -13,7 +13,7 @@ ghost use Prim.Native.Nat.{_+_, _≤_, _<_, suc};
 ghost use lib.ListN.{length};
 ghost use Rattle.spline.specs.Knots.{axis, refusalOfKnots};
 ghost use Rattle.basis.specs.Basis.{N, basisAt, shown};
-ghost use Rattle.basis.specs.Rows.{absent, termAt, mixOf, finite, blank, Columns, Raised, basisOf, Located};
+ghost use Rattle.basis.specs.Rows.{absent, termAt, mixOf, finite, blank, Columns, Raised, basisOf};
 
 // The values, first and second derivatives of the degree + 1 functions from `start` on; nothing of it counts where it is not found.
 pub struct Basis {
@@ -35,12 +35,6 @@ pub(crate) struct Entry {
 pub struct Place {
     pub found: bool,
     pub start: usize,
-}
-
-// Where a parameter lies: the first of its functions, with the parameter as it snaps; or outside of the domain.
-pub(crate) enum Spot {
-    From(usize, f64),
-    Nowhere,
 }
 
 // A function's terms in the sums of the next degree: rising in the one at its own index, falling in the one before.
@@ -166,17 +160,6 @@ fn triangle(knots: &[f64], start: usize, p: usize, u: f64, rows: &mut [[f64; 18]
     true
 }
 
-pub(crate) fn locate(knots: &[f64], degree: usize, controls: usize, u: f64, side: KnotSide) -> Spot
-    requires { ⌜ refusalOfKnots (axis degree controls (now knots)) ≡ 0 ⌝ }
-    ensures { λ r. ⌜ Located (axis degree controls (now (knots .entry))) side u r ⌝ }
-{
-    let Snapped::At(t) = spline::snap(knots[degree], knots[controls], u) else {
-        return Spot::Nowhere;
-    };
-    let start = spline::span(knots, degree, controls, t, side) - degree;
-    Spot::From(start, t)
-}
-
 // The rows filled for a parameter, and where their functions start.
 pub fn tabulate(
     knots: &[f64],
@@ -189,12 +172,13 @@ pub fn tabulate(
     requires { ⌜ (refusalOfKnots (axis degree controls (now knots)) ≡ 0) × (now rows ≡ blank) ⌝ }
     ensures { λ r. ⌜ shown degree (basisOf r (now (rows .exit))) ≡ basisAt (axis degree controls (now (knots .entry))) side u ⌝ }
 {
-    let Spot::From(start, t) = locate(knots, degree, controls, u, side) else {
+    let Snapped::At(t) = spline::snap(knots[degree], knots[controls], u) else {
         return Place {
             found: false,
             start: 0,
         };
     };
+    let start = spline::span(knots, degree, controls, t, side) - degree;
     Place {
         found: triangle(knots, start, degree, t, rows),
         start,

@@ -1,11 +1,10 @@
 // The values alone, or the values and first derivatives, where no number of the basis can overflow: then nothing of it needs to be tested.
 use crate::Place;
-use crate::Spot;
 use crate::absent;
-use crate::locate;
 use crate::mix;
 use crate::term_at;
 use spline::KnotSide;
+use spline::Snapped;
 ghost use mathlib.Core.Path.{_≡_};
 ghost use Prim.Native.Nat.{ℕ, _+_, _-_, _≤_, _<_};
 ghost use lib.ListN.{length, getD, replicate};
@@ -93,12 +92,13 @@ pub fn tabulate_values(
     requires { ⌜ (refusalOfKnots (axis degree controls (now knots)) ≡ 0) × Bounded (axis degree controls (now knots)) × (now values ≡ replicate 18 0·) ⌝ }
     ensures { λ r. ⌜ shownPart degree r (now (values .exit)) ≡ partOf valueOf (basisAt (axis degree controls (now (knots .entry))) side u) ⌝ }
 {
-    let Spot::From(start, t) = locate(knots, degree, controls, u, side) else {
+    let Snapped::At(t) = spline::snap(knots[degree], knots[controls], u) else {
         return Place {
             found: false,
             start: 0,
         };
     };
+    let start = spline::span(knots, degree, controls, t, side) - degree;
     triangle_of_values(knots, start, degree, degree, t, values);
     Place { found: true, start }
 }
@@ -117,12 +117,13 @@ pub fn tabulate_firsts(
     ensures { λ r. ⌜ shownPart degree r (now (values .exit)) ≡ partOf valueOf (basisAt (axis degree controls (now (knots .entry))) side u) ⌝ }
     ensures { λ r. ⌜ shownPart degree r (now (firsts .exit)) ≡ partOf firstOf (basisAt (axis degree controls (now (knots .entry))) side u) ⌝ }
 {
-    let Spot::From(start, t) = locate(knots, degree, controls, u, side) else {
+    let Snapped::At(t) = spline::snap(knots[degree], knots[controls], u) else {
         return Place {
             found: false,
             start: 0,
         };
     };
+    let start = spline::span(knots, degree, controls, t, side) - degree;
     triangle_of_values(knots, start, degree, degree - 1, t, values);
     raise_both(knots, start, degree, t, values, firsts);
     Place { found: true, start }
