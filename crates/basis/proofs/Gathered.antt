@@ -10,8 +10,12 @@ use lib.ListN.{length, getD, replicate, getD-replicate}
 use lib.Ieee.{Float, nan}
 use borrow.Author.Tests.{not-true, not-false, le-leb, eq-eqb, ne-eqb, eqb-true, eqb-false}
 use Rattle.float64.specs.Operators.{0·, 1·}
+use Rattle.spline.specs.Knots.{Axis, low, high, snapped, spanAt}
+use Rattle.spline.specs.declared.parameter.KnotSide.{KnotSide}
+use Rattle.spline.specs.declared.parameter.Snapped.{Snapped}
+use Rattle.spline.specs.declared.parameter.Snapped.the-variants.{At, Outside}
 use Rattle.basis.specs.declared.Basis.{Basis}
-use Rattle.basis.specs.Basis.{Cell, none, cell, blend, N, row, refused, sample, joined, gathered, threes, shown}
+use Rattle.basis.specs.Basis.{Cell, none, cell, blend, N, row, refused, sample, joined, gathered, sampleAt, basisAt, threes, shown}
 use Rattle.basis.specs.Rows.{Rows, blank, entry, Shaped, Columns, Broken, Raised, basisOf}
 use Rattle.basis.proofs.Rows.{by, cells, put, shaped, here, other-row, other-column, E}
 
@@ -120,3 +124,16 @@ module _ (ks : List Float) (start p : ℕ) (u : Float) (small : p ≤ 16) where
       let q : start + 0 ≡ start = omega arith in
       sym (columns-gathered rows h (suc p) 0 (omega arith)) ∙ ap (λ (i : ℕ). gathered start (row ks u (start + p) p (suc p) i)) q
   shows false rows h = sym (none-gathered ks u (start + p) start p (h .index) (h .missing) (suc p) start (omega (arith, h .high)) (omega (arith, h .low)))
+
+-- ---- the two answers of snap
+
+module _ (a : Axis) (side : KnotSide) (u : Float) (s : Snapped) (snaps : s ≡ snapped (low a) (high a) u) where
+  pub nowhere : s ≡ Outside → basisAt a side u ≡ refused
+  unfolding basisAt sampleAt
+  nowhere o = simp (sym snaps ∙ o)
+
+  pub sampled : (t : Float) → s ≡ At t → (i : ℕ) → spanAt a side t ≡ i + a .degree → basisAt a side u ≡ gathered i (row (a .knots) t (i + a .degree) (a .degree) (suc (a .degree)) i)
+  unfolding basisAt sampleAt
+  sampled t o i e =
+      let q : i + a .degree - a .degree ≡ i = omega arith in
+      simp (sym snaps ∙ o, e, q)

@@ -1,8 +1,8 @@
 -- Raising a row of values in place, and what the row shows. Assumes nothing.
 use mathlib.Core.Path.{_≡_, refl, sym, ap, _∙_}
-use mathlib.Core.Bool.{true, false, _&&_, and-eq-true-iff}
+use mathlib.Core.Bool.{true, _&&_, and-eq-true-iff}
 use mathlib.Core.List.{List, _∷_}
-use Prim.Native.Nat.{ℕ, zero, suc, _+_, _-_, _≤_, _<_}
+use Prim.Native.Nat.{ℕ, zero, suc, _+_, _≤_, _<_}
 use native.Mathlib.Omega.{arith}
 use lib.Dec.{eqb}
 use lib.ListN.{length, getD, set, take, drop, replicate, length-set}
@@ -15,16 +15,15 @@ use Rattle.spline.specs.Knots.{Axis, low, high, refusalOfKnots, snapped, spanAt
 use Rattle.spline.specs.KnotLaws.{accepted}
 use Rattle.spline.specs.declared.parameter.KnotSide.{KnotSide}
 use Rattle.spline.specs.declared.parameter.Snapped.{Snapped}
-use Rattle.spline.specs.declared.parameter.Snapped.the-variants.{At, Outside}
-use Rattle.basis.specs.BasisLaws.{bounds}
+use Rattle.spline.specs.declared.parameter.Snapped.the-variants.{At}
 use Rattle.basis.specs.Magnitude.{Bounded, axis-unbroken}
 use Rattle.basis.specs.declared.Entry.{Entry}
 use Rattle.basis.specs.declared.Term.{Term}
-use Rattle.basis.specs.Basis.{Cell, none, cell, checked, blend, N, row as functions, Three, three, Sample, refused, sample, joined, gathered, sampleAt, basisAt}
+use Rattle.basis.specs.Basis.{Cell, none, cell, checked, blend, N, row as functions, Three, three, Sample, refused, sample, joined, gathered, basisAt}
 use Rattle.basis.specs.Rows.{cellOf, finite, absent, termAt, mixOf}
 use Rattle.basis.specs.Parts.{valueIn, firstIn, part, partOf, shownPart, Row, Unbroken}
 use Rattle.basis.proofs.Rows.{by, till, till-below, till-from, till-begin, till-next, till-over, mixed, E, inside, left-of, right-of, left-same, right-same}
-use Rattle.basis.proofs.Gathered.{first}
+use Rattle.basis.proofs.Gathered.{first, sampled}
 use Rattle.basis.proofs.Zeros.{Fine, Alike, Stands, itself, skipped, still-term, rounded-term, alike}
 
 -- ---- a row
@@ -173,24 +172,16 @@ module _ (f : Three → Float) (g : Cell → Float) (agree : (x y z : Float) →
         let t : drop m numbers ≡ g (E ks start p u p m) ∷ drop (suc m) numbers = drop-cons numbers m nan (omega arith) ∙ ap (λ (x : Float). x ∷ drop (suc m) numbers) (same m (omega arith)) in
         rw t (joined-part start (N ks u (start + p) p (start + m)) _ _ (unbroken p (start + m) (omega arith)) (rw q (gathered-part k (suc m) (omega arith))))
 
--- ---- the two answers of snap
+-- ---- of a parameter that snaps
 
-module _ (a : Axis) (h : refusalOfKnots a ≡ 0) (side : KnotSide) (u : Float) (s : Snapped) (snaps : s ≡ snapped (low a) (high a) u) where
-  pub shows-nothing : (f : Three → Float) → s ≡ Outside → (numbers : List Float) → shownPart (a .degree) (record { found = false; start = 0 }) numbers ≡ partOf f (basisAt a side u)
-  unfolding shownPart partOf basisAt sampleAt
-  shows-nothing f o numbers = simp (sym snaps ∙ o)
+module _ (a : Axis) (h : refusalOfKnots a ≡ 0) (B : Bounded a) (side : KnotSide) (u : Float) (s : Snapped) (snaps : s ≡ snapped (low a) (high a) u) (t : Float) (o : s ≡ At t) (i : ℕ) (e : spanAt a side t ≡ i + a .degree) where
+  pub spanned : Unbroken (a .knots) t (i + a .degree) (a .degree)
+  spanned = rw e at (axis-unbroken a side u t h B (sym snaps ∙ o))
 
-  module _ (B : Bounded a) (t : Float) (o : s ≡ At t) (j : ℕ) (e : j ≡ spanAt a side t) where
-    back : spanAt a side t - a .degree + a .degree ≡ spanAt a side t
-    back = omega (arith, bounds a side t j (accepted a h .degree-below) e)
-
-    pub spanned : Unbroken (a .knots) t (j - a .degree + a .degree) (a .degree)
-    spanned = rw (e, back) (axis-unbroken a side u t h B (sym snaps ∙ o))
-
-    pub shows : (f : Three → Float) (g : Cell → Float) → ((x y z : Float) → g (cell x y z) ≡ f (three x y z)) → (numbers : List Float) → length numbers ≡ 18
-        → ((k : ℕ) → k ≤ a .degree → getD numbers k nan ≡ g (E (a .knots) (j - a .degree) (a .degree) t (a .degree) k))
-        → shownPart (a .degree) (record { found = true; start = j - a .degree }) numbers ≡ partOf f (basisAt a side u)
-    unfolding shownPart basisAt sampleAt
-    shows f g agree numbers wide same =
-        let q : spanAt a side t - a .degree + 0 ≡ spanAt a side t - a .degree = omega arith in
-        sym (gathered-part f g agree (a .knots) (j - a .degree) (a .degree) t (accepted a h .degree-most) spanned numbers wide same (suc (a .degree)) 0 (omega arith)) ∙ simp (sym snaps ∙ o, e, back, q)
+  pub shows : (f : Three → Float) (g : Cell → Float) → ((x y z : Float) → g (cell x y z) ≡ f (three x y z)) → (numbers : List Float) → length numbers ≡ 18
+      → ((k : ℕ) → k ≤ a .degree → getD numbers k nan ≡ g (E (a .knots) i (a .degree) t (a .degree) k))
+      → shownPart (a .degree) (record { found = true; start = i }) numbers ≡ partOf f (basisAt a side u)
+  unfolding shownPart
+  shows f g agree numbers wide same =
+      let q : i + 0 ≡ i = omega arith in
+      sym (gathered-part f g agree (a .knots) i (a .degree) t (accepted a h .degree-most) spanned numbers wide same (suc (a .degree)) 0 (omega arith)) ∙ simp (sampled a side u s snaps t o i e, q)

@@ -11,7 +11,7 @@ pub use values::tabulate_values;
 ghost use mathlib.Core.Path.{_≡_};
 ghost use Prim.Native.Nat.{_+_, _≤_, _<_, suc};
 ghost use lib.ListN.{length};
-ghost use Rattle.spline.specs.Knots.{axis, refusalOfKnots};
+ghost use Rattle.spline.specs.Knots.{axis, low, high, refusalOfKnots, snapped, spanAt};
 ghost use Rattle.basis.specs.Basis.{N, basisAt, shown};
 ghost use Rattle.basis.specs.Rows.{absent, termAt, mixOf, finite, blank, Columns, Raised, basisOf};
 
@@ -160,6 +160,22 @@ fn triangle(knots: &[f64], start: usize, p: usize, u: f64, rows: &mut [[f64; 18]
     true
 }
 
+// The parameter as it snaps to the domain.
+fn snap_on(knots: &[f64], degree: usize, controls: usize, u: f64) -> Snapped
+    requires { ⌜ refusalOfKnots (axis degree controls (now knots)) ≡ 0 ⌝ }
+    ensures { λ r. ⌜ r ≡ snapped (low (axis degree controls (now (knots .entry)))) (high (axis degree controls (now (knots .entry)))) u ⌝ }
+{
+    spline::snap(knots[degree], knots[controls], u)
+}
+
+// The first function of the span of t.
+fn first_at(knots: &[f64], degree: usize, controls: usize, t: f64, side: KnotSide) -> usize
+    requires { ⌜ refusalOfKnots (axis degree controls (now knots)) ≡ 0 ⌝ }
+    ensures { λ r. ⌜ (spanAt (axis degree controls (now (knots .entry))) side t ≡ r + degree) × (r + degree < controls) ⌝ }
+{
+    spline::span(knots, degree, controls, t, side) - degree
+}
+
 // The rows filled for a parameter, and where their functions start.
 pub fn tabulate(
     knots: &[f64],
@@ -172,13 +188,13 @@ pub fn tabulate(
     requires { ⌜ (refusalOfKnots (axis degree controls (now knots)) ≡ 0) × (now rows ≡ blank) ⌝ }
     ensures { λ r. ⌜ shown degree (basisOf r (now (rows .exit))) ≡ basisAt (axis degree controls (now (knots .entry))) side u ⌝ }
 {
-    let Snapped::At(t) = spline::snap(knots[degree], knots[controls], u) else {
+    let Snapped::At(t) = snap_on(knots, degree, controls, u) else {
         return Place {
             found: false,
             start: 0,
         };
     };
-    let start = spline::span(knots, degree, controls, t, side) - degree;
+    let start = first_at(knots, degree, controls, t, side);
     Place {
         found: triangle(knots, start, degree, t, rows),
         start,

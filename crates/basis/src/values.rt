@@ -1,7 +1,9 @@
 // The values alone, or the values and first derivatives, where no number of the basis can overflow: then nothing of it needs to be tested.
 use crate::Place;
 use crate::absent;
+use crate::first_at;
 use crate::mix;
+use crate::snap_on;
 use crate::term_at;
 use spline::KnotSide;
 use spline::Snapped;
@@ -92,13 +94,13 @@ pub fn tabulate_values(
     requires { ⌜ (refusalOfKnots (axis degree controls (now knots)) ≡ 0) × Bounded (axis degree controls (now knots)) × (now values ≡ replicate 18 0·) ⌝ }
     ensures { λ r. ⌜ shownPart degree r (now (values .exit)) ≡ partOf valueOf (basisAt (axis degree controls (now (knots .entry))) side u) ⌝ }
 {
-    let Snapped::At(t) = spline::snap(knots[degree], knots[controls], u) else {
+    let Snapped::At(t) = snap_on(knots, degree, controls, u) else {
         return Place {
             found: false,
             start: 0,
         };
     };
-    let start = spline::span(knots, degree, controls, t, side) - degree;
+    let start = first_at(knots, degree, controls, t, side);
     triangle_of_values(knots, start, degree, degree, t, values);
     Place { found: true, start }
 }
@@ -117,13 +119,13 @@ pub fn tabulate_firsts(
     ensures { λ r. ⌜ shownPart degree r (now (values .exit)) ≡ partOf valueOf (basisAt (axis degree controls (now (knots .entry))) side u) ⌝ }
     ensures { λ r. ⌜ shownPart degree r (now (firsts .exit)) ≡ partOf firstOf (basisAt (axis degree controls (now (knots .entry))) side u) ⌝ }
 {
-    let Snapped::At(t) = spline::snap(knots[degree], knots[controls], u) else {
+    let Snapped::At(t) = snap_on(knots, degree, controls, u) else {
         return Place {
             found: false,
             start: 0,
         };
     };
-    let start = spline::span(knots, degree, controls, t, side) - degree;
+    let start = first_at(knots, degree, controls, t, side);
     triangle_of_values(knots, start, degree, degree - 1, t, values);
     raise_both(knots, start, degree, t, values, firsts);
     Place { found: true, start }
