@@ -4,17 +4,17 @@ mod search;
 use inversion::Hint;
 use inversion::Inverted;
 use inversion::invert_nurbs;
+use scaled::Scaling;
 pub use search::finite_vector;
 pub use search::nearest;
 use search::shift;
 use search::sound;
 pub use search::sound_terms;
-use surface::Scaling;
 use surface::Shape;
 use vector3::Vector3;
 ghost use mathlib.Core.Path.{_≡_};
 ghost use Rattle.surface.specs.Surface.{surface};
-ghost use Rattle.surface.specs.Scaled.{Scaled};
+ghost use Rattle.scaled.specs.Scaled.{Scaled};
 ghost use Rattle.chart.specs.Chart.{soundSearch, turned, outcome, searched};
 
 // The period of a chart's axis, which the surface's own flag says nothing of.

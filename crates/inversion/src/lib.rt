@@ -7,14 +7,14 @@ use explore::domain_of;
 use explore::explore;
 use newton::Outcome;
 use newton::run;
+use scaled::Scaling;
 use search::Best;
-use surface::Scaling;
 use surface::Shape;
 use vector3::Vector3;
 ghost use mathlib.Core.Path.{_≡_};
 ghost use Rattle.vector3.specs.Laws.{Finite};
 ghost use Rattle.surface.specs.Surface.{surface};
-ghost use Rattle.surface.specs.Scaled.{Scaled};
+ghost use Rattle.scaled.specs.Scaled.{Scaled};
 ghost use Rattle.inversion.specs.declared.Hint.the-variants.{At};
 ghost use Rattle.inversion.specs.Inversion.{inversionBy, spend};
 

@@ -9,14 +9,14 @@ use round::hold;
 use round::into;
 pub use round::point_of;
 use round::round;
-use surface::Scaling;
+use scaled::Scaling;
+use scaled::scaled_jet;
 use surface::Shape;
-use surface::scaled_jet;
 use vector3::Vector3;
 ghost use mathlib.Core.Path.{_≡_};
 ghost use Prim.Native.Nat.{_≤_};
 ghost use Rattle.surface.specs.Surface.{surface, evaluateBy};
-ghost use Rattle.surface.specs.Scaled.{Scaled};
+ghost use Rattle.scaled.specs.Scaled.{Scaled};
 ghost use Rattle.newton.specs.Run as Run;
 
 // The knot domain of an axis, and whether parameters outside of it wrap.

@@ -13,9 +13,9 @@ use float64::is_finite;
 use float64::max;
 use patch::Evaluated;
 use patch::Jet;
-use surface::Scaling;
+use scaled::Scaling;
+use scaled::scaled_jet;
 use surface::Shape;
-use surface::scaled_jet;
 use vector3::Vector3;
 use vector3::distance;
 use vector3::dot;
@@ -23,7 +23,7 @@ use vector3::sub;
 ghost use mathlib.Core.Path.{_≡_};
 ghost use Prim.Native.Nat.{_≤_};
 ghost use Rattle.surface.specs.Surface.{surface, evaluateBy};
-ghost use Rattle.surface.specs.Scaled.{Scaled};
+ghost use Rattle.scaled.specs.Scaled.{Scaled};
 ghost use Rattle.newton.specs.Run as Run;
 
 fn from_mark(mark: Vector3, j: Jet) -> f64

@@ -6,16 +6,16 @@ use chart::sound_terms;
 use inversion::Hint;
 use marks::misfit;
 use marks::place_marks;
+use scaled::Scaling;
+use scaled::scaling_of;
 use surface::Checked;
-use surface::Scaling;
 use surface::Shape;
 use surface::check;
-use surface::scaling_of;
 ghost use mathlib.Core.Path.{_≡_};
 ghost use mathlib.Core.Bool.{false};
 ghost use lib.ListN.{length};
 ghost use Rattle.surface.specs.Surface.{surface};
-ghost use Rattle.surface.specs.Scaled.{Scaled};
+ghost use Rattle.scaled.specs.Scaled.{Scaled};
 ghost use Rattle.row.specs.Row.{marksOf, misfit, rowed, rowInto, written};
 
 // Every mark was placed, with the budget left; or the number of a refusal, the index of its mark and the budget left.

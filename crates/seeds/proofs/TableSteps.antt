@@ -23,15 +23,15 @@ use Rattle.patch.specs.declared.Evaluated.the-variants as Evaluated
 use Rattle.patch.specs.Patch.{jetOfSums}
 use Rattle.patch.specs.Patch as Patch
 use Rattle.surface.specs.declared.Counts.{Counts}
-use Rattle.surface.specs.declared.Scaling.{Scaling}
+use Rattle.scaled.specs.declared.Scaling.{Scaling}
 use Rattle.surface.specs.declared.Shape.{Shape}
 use Rattle.surface.specs.Surface.{Surface, evaluateBy}
 use Rattle.surface.specs.Lent.{axisOf, sampleOn}
 use Rattle.surface.specs.Net.{Weighed, sumBy}
 use Rattle.surface.specs.Net as Net
-use Rattle.surface.specs.Magnitude.{leastWeight}
-use Rattle.surface.specs.PartLaws.{values-below, patch-of, point-found}
-use Rattle.surface.specs.Scaled.{Scaled, scaled-accepted, scaled-largest}
+use Rattle.scaled.specs.Magnitude.{leastWeight}
+use Rattle.scaled.specs.PartLaws.{values-below, patch-of, point-found}
+use Rattle.scaled.specs.Scaled.{Scaled, scaled-accepted, scaled-largest}
 use Rattle.newton.specs.Run.{pointOf}
 use Rattle.seeds.specs.declared.Located.{Located}
 use Rattle.seeds.specs.declared.Located.the-variants.{At, Refused}

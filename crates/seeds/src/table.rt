@@ -3,11 +3,11 @@ use crate::Located;
 use newton::point_of;
 use patch::Evaluated;
 use patch::point;
+use scaled::LEAST_WEIGHT;
+use scaled::Scaling;
+use scaled::sample_values;
 use surface::Counts;
-use surface::LEAST_WEIGHT;
-use surface::Scaling;
 use surface::Shape;
-use surface::sample_values;
 use surface::sum_over;
 use surface::surface_jet;
 use surface::weigh;
@@ -21,7 +21,7 @@ ghost use Rattle.basis.specs.Magnitude.{Bounded};
 ghost use Rattle.surface.specs.Surface.{surface, evaluateBy};
 ghost use Rattle.surface.specs.Lent.{axisOf};
 ghost use Rattle.surface.specs.Net.{Patch};
-ghost use Rattle.surface.specs.Scaled.{Scaled};
+ghost use Rattle.scaled.specs.Scaled.{Scaled};
 ghost use Rattle.seeds.specs.Table.{located, Known, Tabled, Held};
 
 // The values of an axis's functions at t, put into an empty row. One more than where they start; 0 where they are refused, and where an overflow is not ruled out.

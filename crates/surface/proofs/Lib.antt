@@ -1,5 +1,4 @@
 pub mod CheckSteps
 pub mod SumSteps
 pub mod NetSteps
-pub mod SizeSteps
 pub mod EvaluateSteps

@@ -6,7 +6,4 @@ pub mod Net
 pub mod NetLaws
 pub mod PatchLaws
 pub mod EvaluateLaws
-pub mod Magnitude
-pub mod PartLaws
-pub mod Scaled
 pub mod Examples

@@ -2,10 +2,8 @@
 use crate::Checked;
 use crate::Counts;
 use crate::Evaluation;
-use crate::Scaling;
 use crate::Shape;
 use crate::checks::check;
-use crate::first_order::first_order;
 use crate::periodic::wrap_on;
 use crate::sums::blend;
 use crate::sums::weigh;
@@ -19,7 +17,6 @@ ghost use Rattle.basis.specs.Basis.{shown};
 ghost use Rattle.basis.specs.Rows.{blank, basisOf};
 ghost use Rattle.surface.specs.Surface.{surface, refusalOfSurface, evaluateBy, orNine, evaluated};
 ghost use Rattle.surface.specs.Lent.{axisOf, sampleOn};
-ghost use Rattle.surface.specs.Scaled.{Scaled};
 
 // The functions of one axis at t, put into empty rows.
 fn sample(knots: &[f64], counts: Counts, t: f64, rows: &mut [[f64; 18]; 3]) -> Place
@@ -70,29 +67,6 @@ pub fn surface_jet(
         &functions_v,
         from_v.start,
     )
-}
-
-// The same, with no test for an overflow where it is known that none fails.
-pub fn scaled_jet(
-    shape: Shape,
-    ku: &[f64],
-    kv: &[f64],
-    controls: &[f64],
-    weights: &[f64],
-    scale: Scaling,
-    u: f64,
-    v: f64,
-) -> Evaluated
-    requires { ⌜ Scaled (surface shape (now ku) (now kv) (now controls) (now weights)) scale ⌝ }
-    ensures { λ r. ⌜ r ≡ evaluateBy (surface shape (now (ku .entry)) (now (kv .entry)) (now (controls .entry)) (now (weights .entry))) (scale .largest) u v ⌝ }
-{
-    if scale.bounded {
-        let quick = first_order(shape, ku, kv, controls, weights, scale.largest, u, v);
-        if let Evaluated::Found(_) = quick {
-            return quick;
-        }
-    }
-    surface_jet(shape, ku, kv, controls, weights, scale.largest, u, v)
 }
 
 fn or_nine(e: Evaluated) -> Evaluation

@@ -1,21 +1,16 @@
 // A NURBS surface: a record of counts and flags by value, beside the knots, controls and weights that a caller lends.
 // Control (i, j) stands at i * v.controls + j, three coordinates each.
 mod checks;
-mod first_order;
 mod jets;
 mod periodic;
-mod sizes;
 mod sums;
 
 pub use checks::check;
-pub use first_order::LEAST_WEIGHT;
-pub use first_order::sample_values;
 pub use jets::evaluate;
-pub use jets::scaled_jet;
 pub use jets::surface_jet;
 use patch::Jet;
 pub use periodic::wrap;
-pub use sizes::scaling_of;
+pub use periodic::wrap_on;
 pub use sums::sum_over;
 pub use sums::weigh;
 
@@ -35,12 +30,6 @@ pub struct Shape {
 pub enum Checked {
     Scale(f64),
     Refusal(u64),
-}
-
-// How a surface that passed its checks is evaluated: by its largest weight, and with no test for an overflow where the sizes of its numbers rule one out.
-pub struct Scaling {
-    pub largest: f64,
-    pub bounded: bool,
 }
 
 pub enum Evaluation {

@@ -24,7 +24,7 @@ pub fn wrap(periodic: bool, low: f64, high: f64, t: f64) -> f64
 }
 
 // The same by the knots of an axis.
-pub(crate) fn wrap_on(knots: &[f64], counts: Counts, t: f64) -> f64
+pub fn wrap_on(knots: &[f64], counts: Counts, t: f64) -> f64
     requires { ⌜ refusalOfKnots (axisOf counts (now knots)) ≡ 0 ⌝ }
     ensures { λ r. ⌜ r ≡ wrapped (counts .periodic) (low (axisOf counts (now (knots .entry)))) (high (axisOf counts (now (knots .entry)))) t ⌝ }
 {

@@ -3,7 +3,7 @@ use mathlib.Core.Path.{_≡_}
 use borrow.Author.Needs.{needs}
 use Rattle.surface.specs.Surface.{Surface, surface}
 use Rattle.surface.specs.SurfaceLaws.{accepted-surface}
-use Rattle.surface.specs.Scaled.{scaled-accepted}
+use Rattle.scaled.specs.Scaled.{scaled-accepted}
 use Rattle.inversion.specs.Inversion.{domainOf}
 use Rattle.inversion.proofs.ExploreSteps.{domain-is, hint-spent, hint-refused, hint-fits, hint-close, hint-far}
 use Rattle.inversion.proofs.from_hint.Statement.{statement}

@@ -3,7 +3,7 @@ use native.Mathlib.Omega.{arith}
 use borrow.Author.Needs.{needs}
 use Rattle.surface.specs.Surface.{Surface, surface}
 use Rattle.surface.specs.SurfaceLaws.{AcceptedSurface, accepted-surface}
-use Rattle.surface.specs.Scaled.{scaled-accepted}
+use Rattle.scaled.specs.Scaled.{scaled-accepted}
 use Rattle.inversion.proofs.ExploreSteps.{domain-is, Walks, walks, found-fits, refused-fits, explore-found, explore-refused, explore-spent}
 use Rattle.inversion.proofs.explore.explore.Statement.{statement}
 use Rattle.inversion.proofs.explore.explore.Tie as tie

@@ -10,7 +10,7 @@ use Rattle.patch.specs.declared.Evaluated.{Evaluated}
 use Rattle.surface.specs.declared.Shape.{Shape}
 use Rattle.surface.specs.Surface.{surface, evaluateBy}
 use Rattle.surface.specs.SurfaceLaws.{accepted-surface}
-use Rattle.surface.specs.Scaled.{scaled-accepted}
+use Rattle.scaled.specs.Scaled.{scaled-accepted}
 use Rattle.seeds.specs.Insert.{held, Limits}
 use Rattle.seeds.specs.LimitLaws.{no-limit, square-sound, TakenIn, taken-in, left-out}
 use Rattle.seeds.specs.Table.{Held}

@@ -5,7 +5,7 @@ use Prim.Native.Nat.{suc, _-_}
 use native.Mathlib.Omega.{arith}
 use Rattle.surface.specs.Surface.{Surface, surface}
 use Rattle.surface.specs.PatchLaws.{weights-lent, controls-lent}
-use Rattle.surface.specs.Scaled.{scaled-accepted}
+use Rattle.scaled.specs.Scaled.{scaled-accepted}
 use Rattle.seeds.specs.Table.{located}
 use Rattle.seeds.proofs.TableSteps.{both-start, not-both, held-from, held-to, nothing-held, starting, found-there}
 use borrow.Author.Needs.{needs}

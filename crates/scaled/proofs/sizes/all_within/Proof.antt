@@ -3,10 +3,10 @@ use mathlib.Core.Path.{_≡_}
 use Prim.Native.Nat.{_≤_, _-_}
 use native.Mathlib.Omega.{arith}
 use lib.ListN.{length}
-use Rattle.surface.proofs.SizeSteps.{Told, told-more}
+use Rattle.scaled.proofs.SizeSteps.{Told, told-more}
 use borrow.Author.Needs.{needs}
-use Rattle.surface.proofs.sizes.all_within.Statement.{statement}
-use Rattle.surface.proofs.sizes.all_within.Tie as tie
+use Rattle.scaled.proofs.sizes.all_within.Statement.{statement}
+use Rattle.scaled.proofs.sizes.all_within.Tie as tie
 
 abbrev Inv-loop : tie.InvT-loop
 Inv-loop controls all₀ i₀ i-end all i = (i ≤ length controls) × (i-end ≡ length controls) × Told controls i all

@@ -1,8 +1,8 @@
 -- What is found by first derivatives alone, or the plain way.
-use Rattle.surface.specs.Scaled.{scaled-accepted, scaled-largest}
+use Rattle.scaled.specs.Scaled.{scaled-accepted, scaled-largest}
 use borrow.Author.Needs.{needs}
-use Rattle.surface.proofs.jets.scaled_jet.Statement.{statement}
-use Rattle.surface.proofs.jets.scaled_jet.Tie as tie
+use Rattle.scaled.proofs.scaled_jet.Statement.{statement}
+use Rattle.scaled.proofs.scaled_jet.Tie as tie
 
 abbrev start : tie.After-shared-slice-known4 → tie.Start
 start c = c .before .before .before .before

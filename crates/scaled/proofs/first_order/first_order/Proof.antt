@@ -3,14 +3,14 @@ use mathlib.Core.Path.{_≡_}
 use Prim.Native.Nat.{ℕ}
 use native.Mathlib.Omega.{arith}
 use borrow.Author.Tests.{not-false}
 use Rattle.surface.specs.Surface.{Surface, surface}
 use Rattle.surface.specs.SurfaceLaws.{accepted-surface}
 use Rattle.surface.specs.PatchLaws.{weights-lent, controls-lent}
 use Rattle.surface.specs.Net.{Patch}
-use Rattle.surface.proofs.EvaluateSteps.{patch-there, quick}
+use Rattle.scaled.proofs.FirstOrderSteps.{patch-there, quick}
 use borrow.Author.Needs.{needs}
-use Rattle.surface.proofs.first_order.first_order.Statement.{statement}
-use Rattle.surface.proofs.first_order.first_order.Tie as tie
+use Rattle.scaled.proofs.first_order.first_order.Statement.{statement}
+use Rattle.scaled.proofs.first_order.first_order.Tie as tie
 
 -- the surface that is lent
 abbrev of : tie.Start → Surface

@@ -17,14 +17,14 @@ use Rattle.patch.specs.declared.Sum.{Sum}
 use Rattle.patch.specs.declared.Sums.{Sums}
 use Rattle.patch.specs.declared.Evaluated.the-variants.{Found}
 use Rattle.patch.specs.Patch.{emptySum, jetOfSums}
 use Rattle.surface.specs.declared.Counts.{Counts}
 use Rattle.surface.specs.Surface.{Surface, sampleU, sampleV, evaluateBy, refusalOfSurface, scaleOf}
 use Rattle.surface.specs.SurfaceLaws.{accepted-surface}
 use Rattle.surface.specs.Lent.{axisOf, sampleOn}
 use Rattle.surface.specs.PatchLaws.{patch-below}
 use Rattle.surface.specs.Net.{overBy, term, sequence, numberAt, Patch, Weighed, sums, sumBy}
 use Rattle.surface.specs.NetLaws.{take-sequence, value-alone, u-alone, v-alone}
-use Rattle.surface.specs.Magnitude.{Bounded, leastWeight, bounded-found}
+use Rattle.scaled.specs.Magnitude.{Bounded, leastWeight, bounded-found}
 
 -- ---- one axis
 

@@ -1,11 +1,11 @@
 -- What holds of a surface that passed its checks, with how it is to be evaluated. Assumes nothing.
 use mathlib.Core.Path.{_≡_}
 use mathlib.Core.Bool.{true}
 use Rattle.surface.specs.declared.Checked.the-variants as Check
-use Rattle.surface.specs.declared.Scaling.{Scaling}
+use Rattle.scaled.specs.declared.Scaling.{Scaling}
 use Rattle.surface.specs.Surface.{Surface, checked, refusalOfSurface, scaleOf}
 use Rattle.surface.specs.SurfaceLaws.{checked-scale}
-use Rattle.surface.specs.Magnitude.{Bounded}
+use Rattle.scaled.specs.Magnitude.{Bounded}
 
 pub record Scaled (s : Surface) (m : Scaling) : Type 0 where
   pub checked : checked s ≡ Check.Scale (m .largest)

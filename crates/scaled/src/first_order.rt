@@ -1,15 +1,15 @@
 // An evaluation that leaves out what only tells whether the source would refuse: where the sizes of a surface's numbers rule an overflow out, the second derivatives.
-use crate::Counts;
-use crate::Shape;
-use crate::periodic::wrap_on;
-use crate::sums::sum_over;
-use crate::sums::weigh;
 use basis::Place;
 use basis::tabulate_firsts;
 use basis::tabulate_values;
 use patch::Evaluated;
 use patch::jet_of_sums;
 use spline::KnotSide;
+use surface::Counts;
+use surface::Shape;
+use surface::sum_over;
+use surface::weigh;
+use surface::wrap_on;
 ghost use mathlib.Core.Path.{_≡_};
 ghost use lib.ListN.{length, replicate};
 ghost use Rattle.float64.specs.Operators.{0·};
@@ -18,9 +18,9 @@ ghost use Rattle.basis.specs.Parts.{valueOf, firstOf, partOf, shownPart};
 ghost use Rattle.basis.specs.Magnitude as Basis;
 ghost use Rattle.patch.specs.declared.Jet.{Jet};
 ghost use Rattle.patch.specs.declared.Evaluated.the-variants.{Found};
 ghost use Rattle.surface.specs.Surface.{surface, refusalOfSurface, scaleOf, evaluateBy};
 ghost use Rattle.surface.specs.Lent.{axisOf, sampleOn};
-ghost use Rattle.surface.specs.Magnitude.{Bounded};
+ghost use Rattle.scaled.specs.Magnitude.{Bounded};
 
 // 2^-62. Over a weight sum of at least that no quotient of a bounded surface overflows.
 pub const LEAST_WEIGHT: f64 = 2.168404344971009e-19;

@@ -13,11 +13,11 @@ use lib.Ieee.{Float, nan, binary64, neg, le, ofBits}
 use Rattle.float64.specs.Magnitude.{Mag, within, mag-neg, mag-between}
 use Rattle.spline.specs.Knots.{refusalOfKnots}
 use Rattle.basis.specs.Magnitude as Basis
 use Rattle.surface.specs.declared.Checked.the-variants as Check
 use Rattle.surface.specs.Surface.{Surface, axisU, axisV, checked}
 use Rattle.surface.specs.SurfaceLaws.{accepted-surface, checked-scale}
-use Rattle.surface.specs.Magnitude.{Bounded}
-use Rattle.surface.specs.Scaled.{Scaled}
+use Rattle.scaled.specs.Magnitude.{Bounded}
+use Rattle.scaled.specs.Scaled.{Scaled}
 
 -- 2 ^ 100
 abbrev mostSize : Float

@@ -8,10 +8,10 @@ ghost use Prim.Native.Nat.{ℕ, _<_};
 ghost use lib.ListN.{length, getD};
 ghost use lib.Ieee.{Float, nan};
 ghost use Rattle.float64.specs.Magnitude.{Mag};
 ghost use Rattle.surface.specs.declared.Shape.{Shape};
 ghost use Rattle.surface.specs.declared.Checked.the-variants.{Scale};
 ghost use Rattle.surface.specs.Surface.{surface, checked};
-ghost use Rattle.surface.specs.Scaled.{Scaled};
+ghost use Rattle.scaled.specs.Scaled.{Scaled};
 
 // 2^100.
 const MOST_SIZE: f64 = 1.2676506002282294e30;

@@ -1,6 +1,6 @@
 -- The functions at the parameter as it wraps.
-use Rattle.surface.proofs.first_order.sample_values.Statement.{statement}
-use Rattle.surface.proofs.first_order.sample_values.Tie as tie
+use Rattle.scaled.proofs.first_order.sample_values.Statement.{statement}
+use Rattle.scaled.proofs.first_order.sample_values.Tie as tie
 
 wrap-on-requires : tie.Need-wrap-on-requires
 wrap-on-requires c κs = c .before .pre .0

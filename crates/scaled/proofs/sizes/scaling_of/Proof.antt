@@ -1,9 +1,9 @@
 -- The tests by what each of them tells.
 use Rattle.surface.specs.Surface.{surface}
-use Rattle.surface.proofs.SizeSteps.{scaled}
+use Rattle.scaled.proofs.SizeSteps.{scaled}
 use borrow.Author.Needs.{needs}
-use Rattle.surface.proofs.sizes.scaling_of.Statement.{statement}
-use Rattle.surface.proofs.sizes.scaling_of.Tie as tie
+use Rattle.scaled.proofs.sizes.scaling_of.Statement.{statement}
+use Rattle.scaled.proofs.sizes.scaling_of.Tie as tie
 
 returns : tie.Need-returns
 returns c = λ shape weights h.
