@@ -1,50 +1,130 @@
--- What each branch of the check of weights shows, over plain values. Assumes nothing.
+-- What the pass over the weights and the branches of their check show, over plain values. Assumes nothing.
 use mathlib.Core.Path.{_≡_, refl, sym, ap, _∙_}
-use mathlib.Core.Bool.{Bool, true, false, not, cond, _&&_, _||_, or-true, Bool·not-not}
+use mathlib.Core.Bool.{Bool, true, false, not, cond, _&&_, _||_, and-true, and-self, and-assoc, and-eq-true-iff, or-true}
 use mathlib.Core.List.{List, [], _∷_}
-use Prim.Native.Nat.{ℕ, _+_, _≤_, _<_}
+use Prim.Native.Nat.{ℕ, suc, _+_, _*_, _≤_, _<_}
 use native.Mathlib.Numerals.{add-one}
 use native.Mathlib.Omega.{arith}
 use lib.ListN.{length, drop, getD, drop-of-length-le}
 use lib.Seq.{drop-cons}
-use lib.Ieee.{Float, nan, lt, le, eq}
-use borrow.Author.Tests.{not-true, not-false}
+use lib.Ieee.{Float, nan, inf, lt, eq, isNan}
+use borrow.Author.Tests.{not-false}
 use Rattle.float64.specs.Operators.{_⊘_, 0·}
 use Rattle.float64.specs.Functions.{isFinite, max}
-use Rattle.spline.specs.declared.weights.Weighed.{Weighed}
+use Rattle.float64.specs.Order.{lt-trans, lt-irrefl, lt-not-le, le-not-lt, le-trans}
+use Rattle.float64.specs.Nonneg.{Nonneg, infinite, zero-nonneg, nonneg→number}
 use Rattle.spline.specs.declared.weights.Weighed.the-variants.{Scale, Refused}
 use Rattle.spline.specs.Weights.{sound, largest, vanishing, isEmpty, weighed}
-use Rattle.spline.specs.WeightLaws.{above-zero, scale-of, refused-of, neither, kept-each}
-use Rattle.spline.specs.Each.{tells-more, tells-all}
+use Rattle.spline.specs.ExtremeLaws.{allAbove, lesser, greater, smallest, Told, above-nonneg, sound-by-most, vanishing-by-least}
 
--- ---- one weight
-pub not-finite : (w : Float) → isFinite w ≡ false → (isFinite w && lt 0· w) ≡ false
-not-finite w f = simp f
+-- ---- one of two numbers, by a strict order of them, the first of equals: which pair is compared first makes no difference
 
-pub finite-above : (w : Float) (t : Bool) → isFinite w ≡ true → le w 0· ≡ t → (isFinite w && lt 0· w) ≡ not t
-finite-above w t f h = simp f (above-zero w f ∙ ap not h)
+module _ (R : Float → Float → Bool) (a b c : Float) (forth : R a b ≡ true → R b c ≡ true → R a c ≡ true) (back : R a b ≡ false → R b c ≡ false → R a c ≡ false) where
+  chosen-assoc : cond (R (cond (R a b) b a) c) c (cond (R a b) b a) ≡ cond (R a (cond (R b c) c b)) (cond (R b c) c b) a
+  chosen-assoc = by (R a b) refl (R b c) refl
+    where
+      by : (s : Bool) → R a b ≡ s → (t : Bool) → R b c ≡ t → cond (R (cond s b a) c) c (cond s b a) ≡ cond (R a (cond t c b)) (cond t c b) a
+      by true p true q = simp (q, forth p q)
+      by true p false q = simp (q, p)
+      by false p true q = refl
+      by false p false q = simp (p, back p q)
 
--- ---- the largest
-pub largest-more : (m n : Float) (ws : List Float) (i : ℕ) → largest 0· ws ≡ largest m (drop i ws) → i < length ws → n ≡ max m (getD ws i nan)
-    → largest 0· ws ≡ largest n (drop (i + 1) ws)
-unfolding largest
-largest-more m n ws i e h q = e ∙ rw (q, add-one i, drop-cons ws i nan h)
+not-lt-trans : (a b c : Float) → isNan a ≡ false → isNan b ≡ false → isNan c ≡ false → lt a b ≡ false → lt b c ≡ false → lt a c ≡ false
+not-lt-trans a b c A B C p q =
+    rw (lt-not-le a c A C, le-trans c b a (le-not-lt c b C B ∙ ap not q) (le-not-lt b a B A ∙ ap not p))
 
-module _ (ws : List Float) where
-  pub unsound : sound ws ≡ false → Refused ≡ cond (not (sound ws)) Refused (Scale (largest 0· ws))
-  unsound s = simp s
+module _ {m x y : Float} (M : Nonneg m) (X : Nonneg x) (Y : Nonneg y) where
+  greater-assoc : greater (greater m x) y ≡ greater m (greater x y)
+  greater-assoc = chosen-assoc lt m x y (lt-trans m x y) (not-lt-trans m x y (nonneg→number M) (nonneg→number X) (nonneg→number Y))
 
-  pub walked-sound : (m : Float) (i : ℕ) → sound ws ≡ true → largest 0· ws ≡ largest m (drop i ws) → length ws ≤ i → Scale m ≡ cond (not (sound ws)) Refused (Scale (largest 0· ws))
-  unfolding largest
-  walked-sound m i s e h = simp (s, e, drop-of-length-le ws h)
+  lesser-assoc : lesser (lesser m x) y ≡ lesser m (lesser x y)
+  lesser-assoc = chosen-assoc (λ p q. lt q p) m x y (λ p q. lt-trans y x m q p) (λ p q. not-lt-trans y x m (nonneg→number Y) (nonneg→number X) (nonneg→number M) q p)
 
--- ---- those that vanish
-module _ (m : Float) (ws : List Float) (i : ℕ) (b : Bool) (e : not (vanishing m ws) ≡ (not b && not (vanishing m (drop i ws)))) where
-  pub vanishing-more : i < length ws → not (vanishing m ws) ≡ (not (b || eq (getD ws i nan ⊘ m) 0·) && not (vanishing m (drop (i + 1) ws)))
-  vanishing-more h = tells-more (kept-each m) ws i (not b) e h ∙ ap (λ (t : Bool). t && not (vanishing m (drop (i + 1) ws))) (sym (neither b _))
+max-is : {m : Float} → Nonneg m → (w : Float) → max m w ≡ greater m w
+unfolding max
+max-is M w = rw (nonneg→number M)
 
-  pub vanishing-any : length ws ≤ i → b ≡ vanishing m ws
-  vanishing-any h = sym (Bool·not-not b) ∙ ap not (tells-all (kept-each m) ws i (not b) e h) ∙ Bool·not-not _
+either : (t : Bool) {x y : Float} → Nonneg x → Nonneg y → Nonneg (cond t x y)
+either true p q = p
+either false p q = q
+
+greater-nonneg : {m w : Float} → Nonneg m → Nonneg w → Nonneg (greater m w)
+greater-nonneg {m} {w} p q = either (lt m w) q p
+
+lesser-nonneg : {m w : Float} → Nonneg m → Nonneg w → Nonneg (lesser m w)
+lesser-nonneg {m} {w} p q = either (lt w m) q p
+
+-- ---- what was found of the weights before the rest
+
+pub record Passed (ws rest : List Float) (above : Bool) (least most : Float) : Type 0 where
+  pub is-above : allAbove ws ≡ (above && allAbove rest)
+  pub is-least : above ≡ true → smallest (inf false) ws ≡ smallest least rest
+  pub is-most : above ≡ true → largest 0· ws ≡ largest most rest
+  pub least-number : above ≡ true → Nonneg least
+  pub most-number : above ≡ true → Nonneg most
+
+pub begin : (ws : List Float) → Passed ws ws true (inf false) 0·
+begin ws = record { is-above = refl; is-least = λ h. refl; is-most = λ h. refl; least-number = λ h. infinite; most-number = λ h. zero-nonneg }
+
+-- where all that was found is above 0, and so are the next two
+module _ (above : Bool) (x y : Float) (h : (above && (lt 0· x && lt 0· y)) ≡ true) where
+  before : above ≡ true
+  before = and-eq-true-iff above _ .0 h .0
+
+  first : Nonneg x
+  first = above-nonneg x (and-eq-true-iff (lt 0· x) (lt 0· y) .0 (and-eq-true-iff above _ .0 h .1) .0)
+
+  second : Nonneg y
+  second = above-nonneg y (and-eq-true-iff (lt 0· x) (lt 0· y) .0 (and-eq-true-iff above _ .0 h .1) .1)
+
+pub go : {ws rest : List Float} {x y : Float} {above : Bool} {least most : Float} → Passed ws (x ∷ y ∷ rest) above least most
+    → Passed ws rest (above && (lt 0· x && lt 0· y)) (lesser least (lesser x y)) (greater most (greater x y))
+unfolding allAbove smallest largest
+go {ws} {rest} {x} {y} {above} {least} {most} p = record {
+  is-above = p .is-above ∙ simp and-assoc;
+  is-least = λ h. p .is-least (before above x y h) ∙ ap (λ (z : Float). smallest z rest) (lesser-assoc (p .least-number (before above x y h)) (first above x y h) (second above x y h));
+  is-most = λ h.
+      let M = p .most-number (before above x y h) in
+      let X = first above x y h in
+      p .is-most (before above x y h) ∙ ap (λ (z : Float). largest (max z y) rest) (max-is M x) ∙ ap (λ (z : Float). largest z rest) (max-is (greater-nonneg M X) y ∙ greater-assoc M X (second above x y h));
+  least-number = λ h. lesser-nonneg (p .least-number (before above x y h)) (lesser-nonneg (first above x y h) (second above x y h));
+  most-number = λ h. greater-nonneg (p .most-number (before above x y h)) (greater-nonneg (first above x y h) (second above x y h));
+}
+
+pub over : {ws : List Float} {above : Bool} {least most : Float} → Passed ws [] above least most → Told ws above least most
+unfolding allAbove smallest largest
+over {ws} {above} p = record { is-above = sym (p .is-above ∙ and-true above); is-least = λ h. sym (p .is-least h); is-most = λ h. sym (p .is-most h) }
+
+-- the last of an odd number, as a pair with itself
+pub over-odd : {ws : List Float} {x : Float} {above : Bool} {least most : Float} → Passed ws (x ∷ []) above least most
+    → Told ws (above && (lt 0· x && lt 0· x)) (lesser least (lesser x x)) (greater most (greater x x))
+unfolding allAbove smallest largest
+over-odd {ws} {x} {above} {least} {most} p = record {
+  is-above = sym (p .is-above ∙ simp (and-true, and-self));
+  is-least = λ h. simp (lt-irrefl x) (sym (p .is-least (before above x x h)));
+  is-most = λ h. simp (lt-irrefl x) (sym (p .is-most (before above x x h) ∙ max-is (p .most-number (before above x x h)) x));
+}
+
+drop-two : (ws : List Float) (j k : ℕ) → j + 1 < length ws → k ≡ suc (suc j) → drop j ws ≡ getD ws j nan ∷ getD ws (j + 1) nan ∷ drop k ws
+drop-two ws j k h e = rw (e, add-one j) (drop-cons ws j nan (omega arith) ∙ ap (λ (l : List Float). getD ws j nan ∷ l) (drop-cons ws (suc j) nan (omega arith)))
+
+drop-last : (ws : List Float) (j : ℕ) → length ws ≡ j + 1 → drop j ws ≡ getD ws j nan ∷ []
+drop-last ws j h = drop-cons ws j nan (omega arith) ∙ ap (λ (l : List Float). getD ws j nan ∷ l) (drop-of-length-le ws {i = suc j} (omega arith))
+
+-- what `with_pair` answers
+abbrev pub Taken : Bool → Float → Float → Float → Float → Bool → Float → Float → Type 0
+Taken above least most x y a l m = (a ≡ (above && (lt 0· x && lt 0· y))) × (l ≡ lesser least (lesser x y)) × (m ≡ greater most (greater x y))
+
+-- the pass by pairs: before turn i the weights from 2 * i on are left
+module _ (ws : List Float) (i : ℕ) (above : Bool) (least most : Float) (p : Passed ws (drop (2 * i) ws) above least most) where
+  pub turn : {a : Bool} {l m : Float} → 2 * i + 1 < length ws → Taken above least most (getD ws (2 * i) nan) (getD ws (2 * i + 1) nan) a l m → Passed ws (drop (2 * (i + 1)) ws) a l m
+  turn h e = rw (e .0, e .1, e .2) (go (rw (drop-two ws (2 * i) (2 * (i + 1)) h (omega arith)) at p))
+
+  pub even-end : length ws ≤ 2 * i → Told ws above least most
+  even-end h = over (rw (drop-of-length-le ws h) at p)
+
+  pub odd-end : {a : Bool} {l m : Float} (j : ℕ) → j ≡ 2 * i → length ws ≡ j + 1 → Taken above least most (getD ws j nan) (getD ws j nan) a l m → Told ws a l m
+  odd-end j q h e = rw (e .0, e .1, e .2) (over-odd (rw (← q, drop-last ws j h) at p))
 
 -- ---- the answer
 empty : (ws : List Float) → length ws ≡ 0 → isEmpty ws ≡ true
@@ -61,22 +141,33 @@ pub none-refused : (ws : List Float) → length ws ≡ 0 → Refused ≡ weighed
 unfolding weighed
 none-refused ws h = simp (empty ws h)
 
-module _ (ws : List Float) (found : Weighed) (e : found ≡ cond (not (sound ws)) Refused (Scale (largest 0· ws))) where
-  of-refused : found ≡ Refused → not (sound ws) ≡ true
-  of-refused r = refused-of _ _ (sym e ∙ r)
+-- what the pass told of some weights, and whether the largest is finite
+module _ (ws : List Float) (h : length ws ≡ 0 → ⊥) (above finite : Bool) (least most : Float) (t : Told ws above least most) (f : finite ≡ isFinite most) where
+  sound-is : sound ws ≡ (above && finite)
+  sound-is = sound-by-most ws ∙ by above refl
+    where
+      by : (b : Bool) → above ≡ b → (allAbove ws && isFinite (largest 0· ws)) ≡ (above && finite)
+      by true e = rw (← t .is-above, ← t .is-most e, f)
+      by false e = rw (← t .is-above, e)
 
-  pub unsound-refused : found ≡ Refused → Refused ≡ weighed ws
+  pub unsound-refused : not (above && finite) ≡ true → Refused ≡ weighed ws
   unfolding weighed
-  unsound-refused r = simp (not-true (sound ws) (of-refused r), or-true)
+  unsound-refused n = simp (sound-is, n, or-true)
 
-  module _ (m : Float) (r : found ≡ Scale m) where
-    of-scale : (not (sound ws) ≡ false) × (largest 0· ws ≡ m)
-    of-scale = scale-of _ _ _ (sym e ∙ r)
+  module _ (n : not (above && finite) ≡ false) where
+    is-sound : sound ws ≡ true
+    is-sound = sound-is ∙ not-false _ n
 
-    pub vanishing-refused : vanishing m ws ≡ true → Refused ≡ weighed ws
+    all-above : above ≡ true
+    all-above = and-eq-true-iff above finite .0 (not-false _ n) .0
+
+    vanishing-is : vanishing (largest 0· ws) ws ≡ eq (least ⊘ most) 0·
+    vanishing-is = vanishing-by-least ws (omega arith) is-sound ∙ rw (t .is-least all-above, t .is-most all-above)
+
+    pub vanishing-refused : eq (least ⊘ most) 0· ≡ true → Refused ≡ weighed ws
     unfolding weighed
-    vanishing-refused v = simp (of-scale .1, v, or-true)
+    vanishing-refused v = simp (vanishing-is, v, or-true)
 
-    pub scaled : (length ws ≡ 0 → ⊥) → vanishing m ws ≡ false → Scale m ≡ weighed ws
+    pub scaled : eq (least ⊘ most) 0· ≡ false → Scale most ≡ weighed ws
     unfolding weighed
-    scaled h v = simp (some ws h, not-false (sound ws) (of-scale .0), of-scale .1, v)
+    scaled v = simp (some ws h, is-sound, vanishing-is, v) (ap Scale (t .is-most all-above))

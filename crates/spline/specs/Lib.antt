@@ -3,6 +3,7 @@ pub mod Knots
 pub mod Compute
 pub mod Each
 pub mod WeightLaws
+pub mod ExtremeLaws
 pub mod KnotLaws
 pub mod ParameterLaws
 pub mod Examples

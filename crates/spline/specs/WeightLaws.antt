@@ -22,20 +22,20 @@ pub sound-each : Each soundOne sound
 unfolding sound
 sound-each = record { none = refl; more = λ w ws. refl }
 
-abbrev pub keptOne : Float → Float → List Float → Bool
+abbrev keptOne : Float → Float → List Float → Bool
 keptOne m w ws = not (eq (w ⊘ m) 0·)
 
-pub neither : (p q : Bool) → not (p || q) ≡ (not p && not q)
+neither : (p q : Bool) → not (p || q) ≡ (not p && not q)
 neither true q = refl
 neither false q = refl
 
 -- none vanishes
-pub kept-each : (m : Float) → Each (keptOne m) (λ ws. not (vanishing m ws))
+kept-each : (m : Float) → Each (keptOne m) (λ ws. not (vanishing m ws))
 unfolding vanishing
 kept-each m = record { none = refl; more = λ w ws. neither (eq (w ⊘ m) 0·) (vanishing m ws) }
 
 -- ---- the largest
-zero-finite : isFinite 0· ≡ true
+pub zero-finite : isFinite 0· ≡ true
 unfolding isFinite ofBits
 zero-finite = refl
 
@@ -55,14 +55,14 @@ module _ (m w : Float) (f : isFinite m ≡ true) (g : isFinite w ≡ true) where
       by true h = (g, lt→le m w h, le-refl w (finite→number w g))
       by false h = (f, le-refl m (finite→number m f), le-not-lt w m (finite→number w g) (finite→number m f) ∙ ap not h)
 
-weight-at : (ws : List Float) (i : ℕ) → sound ws ≡ true → i < length ws → (isFinite (getD ws i nan) ≡ true) × (lt 0· (getD ws i nan) ≡ true)
+pub weight-at : (ws : List Float) (i : ℕ) → sound ws ≡ true → i < length ws → (isFinite (getD ws i nan) ≡ true) × (lt 0· (getD ws i nan) ≡ true)
 weight-at ws i s h = both (isFinite (getD ws i nan)) (lt 0· (getD ws i nan)) (each-at sound-each ws i s h)
 
 -- n is finite, and at least m and each weight
-record Bounds (m : Float) (ws : List Float) (n : Float) : Type 0 where
-  finite : isFinite n ≡ true
-  first : le m n ≡ true
-  each : (i : ℕ) → i < length ws → le (getD ws i nan) n ≡ true
+pub record Bounds (m : Float) (ws : List Float) (n : Float) : Type 0 where
+  pub finite : isFinite n ≡ true
+  pub first : le m n ≡ true
+  pub each : (i : ℕ) → i < length ws → le (getD ws i nan) n ≡ true
 
 bounds-more : (m w : Float) (ws : List Float) (n : Float) → isFinite m ≡ true → isFinite w ≡ true → Bounds (max m w) ws n → Bounds m (w ∷ ws) n
 bounds-more m w ws n f g b = record { finite = b .finite; first = le-trans m (max m w) n (max-bounds m w f g .1) (b .first); each = each }
@@ -71,7 +71,7 @@ bounds-more m w ws n f g b = record { finite = b .finite; first = le-trans m (ma
     each zero h = le-trans w (max m w) n (max-bounds m w f g .2) (b .first)
     each (suc i) h = b .each i (omega arith)
 
-largest-bounds : (m : Float) (ws : List Float) → isFinite m ≡ true → sound ws ≡ true → Bounds m ws (largest m ws)
+pub largest-bounds : (m : Float) (ws : List Float) → isFinite m ≡ true → sound ws ≡ true → Bounds m ws (largest m ws)
 unfolding largest
 largest-bounds m [] f s = record { finite = f; first = le-refl m (finite→number m f); each = λ i h. absurd (omega arith) }
 largest-bounds m (w ∷ ws) f s =
@@ -88,14 +88,10 @@ pub record AcceptedWeights (ws : List Float) (m : Float) : Type 0 where
   pub scale-finite : isFinite m ≡ true
   pub scale-above : lt 0· m ≡ true
 
--- what the answers `Scale` and `Refused` show of a test
+-- what the answer `Scale` shows of a test
 pub scale-of : (t : Bool) (n m : Float) → cond t Refused (Scale n) ≡ Scale m → (t ≡ false) × (n ≡ m)
 scale-of true n m e = absurd (let z : _≡_ {A = ℕ} 0 1 = cc in omega arith)
 scale-of false n m e = (refl, cc)
-
-pub refused-of : (t : Bool) (n : Float) → cond t Refused (Scale n) ≡ Refused → t ≡ true
-refused-of true n e = refl
-refused-of false n e = absurd (let z : _≡_ {A = ℕ} 0 1 = cc in omega arith)
 
 neither-of : (p q : Bool) → (p || q) ≡ false → (p ≡ false) × (q ≡ false)
 neither-of true q h = absurd (true≢false h)

@@ -1,8 +1,11 @@
 // The homogeneous scales of the controls.
+use float64::is_finite;
 ghost use mathlib.Core.Path.{_≡_};
-ghost use mathlib.Core.Bool.{not, cond};
+ghost use mathlib.Core.Bool.{true, _&&_};
+ghost use lib.Ieee.{lt};
 ghost use Rattle.float64.specs.Operators.{0·};
-ghost use Rattle.spline.specs.Weights.{sound, largest, vanishing, weighed};
+ghost use Rattle.spline.specs.Weights.{weighed};
+ghost use Rattle.spline.specs.ExtremeLaws.{lesser, greater, Told};
 
 pub enum Weighed {
     // The largest, by which the others are to be divided.
@@ -10,48 +13,74 @@ pub enum Weighed {
     Refused,
 }
 
-// Every weight must be finite and above 0, and stay above 0 when it is divided by the largest.
+// Whether weights are above 0, and then the smallest and the largest of them; of none, an infinity and 0.
+struct Extremes {
+    above: bool,
+    least: f64,
+    most: f64,
+}
+
+fn lesser(m: f64, w: f64) -> f64
+    ensures { λ r. ⌜ r ≡ lesser m w ⌝ }
+{
+    if w < m {
+        return w;
+    }
+    m
+}
+
+fn greater(m: f64, w: f64) -> f64
+    ensures { λ r. ⌜ r ≡ greater m w ⌝ }
+{
+    if m < w {
+        return w;
+    }
+    m
+}
+
+// Two weights more. They are held against each other first, so that what was found before is waited for once and not twice.
+fn with_pair(e: Extremes, x: f64, y: f64) -> Extremes
+    ensures { λ r. ⌜ (r .above ≡ (e .above && (lt 0· x && lt 0· y))) × (r .least ≡ lesser (e .least) (lesser x y)) × (r .most ≡ greater (e .most) (greater x y)) ⌝ }
+{
+    Extremes {
+        above: e.above & ((0.0 < x) & (0.0 < y)),
+        least: lesser(e.least, lesser(x, y)),
+        most: greater(e.most, greater(x, y)),
+    }
+}
+
+fn extremes_of(weights: &[f64]) -> Extremes
+    ensures { λ r. ⌜ Told (now (weights .entry)) (r .above) (r .least) (r .most) ⌝ }
+{
+    let count = weights.len();
+    let mut found = Extremes {
+        above: true,
+        least: 1.0 / 0.0,
+        most: 0.0,
+    };
+    for i in 0..count / 2 {
+        found = with_pair(found, weights[2 * i], weights[2 * i + 1]);
+    }
+    if count % 2 == 1 {
+        let last = weights[count - 1];
+        return with_pair(found, last, last);
+    }
+    found
+}
+
+// Every weight must be finite and above 0, and stay above 0 when it is divided by the largest: all are finite where the largest is, and none becomes 0 where the smallest doesn't.
 pub fn validate_weights(weights: &[f64]) -> Weighed
     ensures { λ r. ⌜ r ≡ weighed (now (weights .entry)) ⌝ }
 {
     if weights.len() == 0 {
         return Weighed::Refused;
     }
-    let found = largest_weight(weights);
-    let Weighed::Scale(max) = found else {
-        return Weighed::Refused;
-    };
-    if any_vanishes(weights, max) {
+    let found = extremes_of(weights);
+    if !(found.above & is_finite(found.most)) {
         return Weighed::Refused;
     }
-    Weighed::Scale(max)
-}
-
-// The largest of weights that are finite and above 0, 0 of none.
-fn largest_weight(weights: &[f64]) -> Weighed
-    ensures { λ r. ⌜ r ≡ cond (not (sound (now (weights .entry)))) Weighed.Refused (Weighed.Scale (largest 0· (now (weights .entry)))) ⌝ }
-{
-    let mut max = 0.0;
-    for i in 0..weights.len() {
-        let w = weights[i];
-        if !float64::is_finite(w) {
-            return Weighed::Refused;
-        }
-        if w <= 0.0 {
-            return Weighed::Refused;
-        }
-        max = float64::larger(max, w);
+    if found.least / found.most == 0.0 {
+        return Weighed::Refused;
     }
-    Weighed::Scale(max)
-}
-
-// Whether a weight divided by max is 0. All are divided, two at a time, since none is as a rule.
-fn any_vanishes(weights: &[f64], max: f64) -> bool
-    ensures { λ r. ⌜ r ≡ vanishing max (now (weights .entry)) ⌝ }
-{
-    let mut any = false;
-    for i in 0..weights.len() {
-        any = any | (weights[i] / max == 0.0);
-    }
-    any
+    Weighed::Scale(found.most)
 }
