@@ -3,9 +3,10 @@ use mathlib.Core.Path.{_≡_, refl, sym, subst}
 use Prim.Native.Nat.{ℕ, zero, suc, _+_, _-_, _*_, _/_, _%_, _^_, _≤_, _<_}
 use native.Mathlib.Nat.{mul-add, add-mul, mul-assoc, mul-comm, mul-le-mul, le-antisymm, lt-trans}
 use native.Mathlib.Omega.{arith}
-use mathlib.Core.Bool.{true}
-use lib.Dec.{ltb}
-use borrow.Author.Tests.{ltb-true}
+use mathlib.Core.Bool.{Bool, true, false, _&&_, and-eq-true-iff}
+use mir.Val.{boolByte}
+use lib.Dec.{ltb, leb}
+use borrow.Author.Tests.{ltb-true, ltb-false, leb-true, leb-false}
 use Rattle.float64.specs.WholeRoot.{unsquare-lt, IsNearest, nearestRoot, nearest-root, square-odd, square-suc}
 
 -- ---- the square of a number of two parts
@@ -63,10 +64,36 @@ settled q n s l h =
     let r = nearest-root n s in
     le-antisymm (nearest-le q (nearestRoot n) n p r) (nearest-le (nearestRoot n) q n r p)
 
--- the two tests of `is_nearest`, by the square's parts
-module _ (q m h l : ℕ) (square : q * q ≡ h * 4503599627370496 + l) (small : m < 2 ^ 54) where
-  pub from-below : h ≤ m → (m - h) * 4503599627370496 ≤ l + q → ltb l ((m - h) * 4503599627370496 + q) ≡ true → q ≡ nearestRoot (m * 2 ^ 52)
-  from-below g t s = let k = ltb-true l ((m - h) * 4503599627370496 + q) s in settled q (m * 2 ^ 52) (omega arith) (omega arith) (omega arith)
+-- ---- the guess and its neighbours
 
-  pub from-above : m < h → ltb ((h - m) * 4503599627370496 + l) q ≡ true → q ≡ nearestRoot (m * 2 ^ 52)
-  from-above g s = let k = ltb-true ((h - m) * 4503599627370496 + l) q s in settled q (m * 2 ^ 52) (omega arith) (omega arith) (omega arith)
+-- r is nearest to the root of q * q + radicand - square
+abbrev Near : (q radicand square r : ℕ) → Type 0
+Near q radicand square r = (r * r + square < q * q + radicand + r) × (q * q + radicand ≤ r * r + r + square)
+
+-- by the tests of `nearest_of_three`
+pub of-three : (q radicand square : ℕ) (up down : Bool) → 1 ≤ q → radicand ≤ square + 3 * q + 2 → square + 2 < radicand + 3 * q
+    → ltb (square + q) radicand ≡ up → leb (radicand + q) square ≡ down → Near q radicand square (q + boolByte up - boolByte down)
+of-three q n s true true g h l u d = absurd (omega (arith, ltb-true (s + q) n u, leb-true (n + q) s d))
+of-three q n s true false g h l u d =
+    let e : suc q ≡ q + 1 - 0 = omega arith in
+    subst (Near q n s) e (omega (arith, ltb-true (s + q) n u, square-suc q), omega (arith, square-suc q))
+of-three zero n s false true g h l u d = absurd (omega arith)
+of-three (suc k) n s false true g h l u d =
+    let e : k ≡ suc k + 0 - 1 = omega arith in
+    subst (Near (suc k) n s) e (omega (arith, square-suc k), omega (arith, leb-true (n + suc k) s d, square-suc k))
+of-three q n s false false g h l u d =
+    let e : q ≡ q + 0 - 0 = omega arith in
+    subst (Near q n s) e (omega (arith, leb-false (n + q) s d), omega (arith, ltb-false (s + q) n u))
+
+-- the one before q is a number, and the one after it fits
+pub before-q : (q : ℕ) (up down : Bool) → 1 ≤ q → boolByte down ≤ q + boolByte up
+before-q q up true h = omega arith
+before-q q up false h = omega arith
+
+pub after-q : (q : ℕ) (up : Bool) → q < 2 ^ 53 → q + boolByte up < 2 ^ 64
+after-q q true h = omega arith
+after-q q false h = omega arith
+
+-- the two tests of a condition of `nearest_root`
+pub both : (a b c d : ℕ) → (leb a b && ltb c d) ≡ true → (a ≤ b) × (c < d)
+both a b c d h = let t = and-eq-true-iff (leb a b) (ltb c d) .0 h in (leb-true a b (t .0), ltb-true c d (t .1))

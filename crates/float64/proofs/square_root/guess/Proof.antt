@@ -1,27 +1,27 @@
-use Prim.Native.Nat.{_/_, _%_, _^_}
-use mathlib.Core.Path.{sym, subst, _∙_}
-use mathlib.Core.Bool.{Bool, not}
 use native.Mathlib.Omega.{arith}
-use lib.Dec.{T, le→leb}
-use lib.Ieee.{inFloat}
-use Rattle.float64.proofs.Small.{ne-isNan}
+use Rattle.float64.proofs.Patterns.{not-nan-bits}
+use Rattle.float64.proofs.Small.{not-nan}
 use borrow.Author.Needs.{needs}
 use Rattle.float64.proofs.square_root.guess.Statement.{statement}
 use Rattle.float64.proofs.square_root.guess.Tie as tie
 
-int-to-float-x : tie.Need-int-to-float-x
-unfolding inFloat
-int-to-float-x c = le→leb (c .before .args .m / 2) (2 ^ 53) (omega arith)
+add-x : tie.Need-add-x
+add-x c = search needs
 
-int-to-float-x-2 : tie.Need-int-to-float-x-2
-unfolding inFloat
-int-to-float-x-2 c = le→leb (c .before .before .args .m % 2) (2 ^ 53) (omega arith)
+mul-x : tie.Need-mul-x
+mul-x c = search needs
+
+add-x-2 : tie.Need-add-x-2
+add-x-2 c = search needs
+
+float-from-bits-x : tie.Need-float-from-bits-x
+float-from-bits-x c = not-nan-bits _ (omega arith)
 
 returns : tie.Need-returns
 returns c = search needs
 
 float-to-bits-digits-of : tie.Need-float-to-bits-digits-of
-float-to-bits-digits-of c = subst (λ (b : Bool). T (not b)) (sym (sym (ne-isNan _) ∙ c .if1 .left)) tt
+float-to-bits-digits-of c = not-nan _ (c .if1 .left)
 
 digits-of-requires : tie.Need-digits-of-requires
 digits-of-requires c κs = search needs
@@ -33,8 +33,10 @@ pub guess-spec : {M : Type 1} → statement M
 guess-spec =
     tie.close
     (tie.spec
-    int-to-float-x
-    int-to-float-x-2
+    add-x
+    mul-x
+    add-x-2
+    float-from-bits-x
     returns
     float-to-bits-digits-of
     digits-of-requires

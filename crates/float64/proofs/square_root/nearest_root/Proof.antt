@@ -1,60 +1,86 @@
+use Prim.Native.Nat.{_+_, _≤_, _<_}
+use native.Mathlib.Omega.{arith}
+use Rattle.float64.proofs.Guess.{settled, both}
 use borrow.Author.Needs.{needs}
 use Rattle.float64.proofs.square_root.nearest_root.Statement.{statement}
 use Rattle.float64.proofs.square_root.nearest_root.Tie as tie
 
-guess-requires : tie.Need-guess-requires
-guess-requires c κs = search needs
+squared-requires : tie.Need-squared-requires
+squared-requires c κs = search needs
 
-is-nearest-requires : tie.Need-is-nearest-requires
-is-nearest-requires c κs = search needs
+add-if1 : tie.Need-add-if1
+add-if1 c = search needs
+
+add-if1-2 : tie.Need-add-if1-2
+add-if1-2 c = search needs
+
+add-radicand : tie.Need-add-radicand
+add-radicand c = search needs
+
+near : (c : tie.Then1) → let at = c .before .before .before in (at .squared .result .high ≤ at .before .args .m + 8) × (at .before .args .m < at .squared .result .high + 8)
+near c = both _ _ _ _ (c .if1 .taken)
+
+sub-radicand : tie.Need-sub-radicand
+sub-radicand c = let t = near (c .before) in omega arith
+
+mul-radicand : tie.Need-mul-radicand
+mul-radicand c = let t = near (c .before) in omega arith
+
+mul-square : tie.Need-mul-square
+mul-square c = search needs
+
+add-square : tie.Need-add-square
+add-square c = search needs
+
+mul-if2 : tie.Need-mul-if2
+mul-if2 c = search needs
+
+add-if2 : tie.Need-add-if2
+add-if2 c = search needs
+
+add-if2-2 : tie.Need-add-if2-2
+add-if2-2 c = search needs
+
+add-if2-3 : tie.Need-add-if2-3
+add-if2-3 c = search needs
+
+mul-if2-2 : tie.Need-mul-if2-2
+mul-if2-2 c = search needs
+
+add-if2-4 : tie.Need-add-if2-4
+add-if2-4 c = let t = near (c .before .before) in omega arith
+
+nearest-of-three-requires : tie.Need-nearest-of-three-requires
+nearest-of-three-requires c κs = search (needs, both)
 
 returns : tie.Need-returns
-returns c = c .before .is-nearest .ensures (c .if1 .taken)
-
-add-is-nearest : tie.Need-add-is-nearest
-add-is-nearest c = search needs
-
-is-nearest-requires-2 : tie.Need-is-nearest-requires-2
-is-nearest-requires-2 c κs = search needs
-
-add-result : tie.Need-add-result
-add-result c = search needs
-
-returns-2 : tie.Need-returns-2
-returns-2 c = c .before .is-nearest2 .ensures (c .if2 .taken)
-
-sub-is-nearest : tie.Need-sub-is-nearest
-sub-is-nearest c = search needs
-
-is-nearest-requires-3 : tie.Need-is-nearest-requires-3
-is-nearest-requires-3 c κs = search needs
-
-sub-result : tie.Need-sub-result
-sub-result c = search needs
-
-returns-3 : tie.Need-returns-3
-returns-3 c = c .before .is-nearest3 .ensures (c .if3 .taken)
+returns c = let t = near (c .before .before .before .before) in settled _ _ (omega arith) (omega arith) (omega arith)
 
 root-by-digits-requires : tie.Need-root-by-digits-requires
 root-by-digits-requires c κs = search needs
 
-returns-4 : tie.Need-returns-4
-returns-4 c = search needs
+returns-2 : tie.Need-returns-2
+returns-2 c = search needs
 
 pub nearest-root-spec : {M : Type 1} → statement M
 nearest-root-spec =
     tie.close
     (tie.spec
-    guess-requires
-    is-nearest-requires
+    squared-requires
+    add-if1
+    add-if1-2
+    add-radicand
+    sub-radicand
+    mul-radicand
+    mul-square
+    add-square
+    mul-if2
+    add-if2
+    add-if2-2
+    add-if2-3
+    mul-if2-2
+    add-if2-4
+    nearest-of-three-requires
     returns
-    add-is-nearest
-    is-nearest-requires-2
-    add-result
-    returns-2
-    sub-is-nearest
-    is-nearest-requires-3
-    sub-result
-    returns-3
     root-by-digits-requires
-    returns-4)
+    returns-2)

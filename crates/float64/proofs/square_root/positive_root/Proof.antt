@@ -19,11 +19,14 @@ add-nearest-root c = search needs
 mul-nearest-root : tie.Need-mul-nearest-root
 mul-nearest-root c = let n = c .before .before .normalized in omega (arith, lent (n .result .significand) (n .result .exponent) (n .ensures .short))
 
-nearest-root-requires : tie.Need-nearest-root-requires
-nearest-root-requires c κs = let n = c .before .before .normalized in lent (n .result .significand) (n .result .exponent) (n .ensures .short)
+guess-requires : tie.Need-guess-requires
+guess-requires c κs = search needs
 
-given : (c : tie.After-nearest-root) → let at = c .before .before .before in Answer (toBits binary64 (at .before .args .x)) (at .normalized .result .significand) (at .normalized .result .exponent) (c .nearest-root .result) (root (at .before .args .x))
-given c = let at = c .before .before .before in answer (at .before .args .x) (c .nearest-root .result) (search needs) (at .before .pre) (at .normalized .ensures) (c .nearest-root .ensures)
+nearest-root-requires : tie.Need-nearest-root-requires
+nearest-root-requires c κs = let n = c .before .before .before .normalized in (lent (n .result .significand) (n .result .exponent) (n .ensures .short), search needs, search needs)
+
+given : (c : tie.After-nearest-root) → let at = c .before .before .before .before in Answer (toBits binary64 (at .before .args .x)) (at .normalized .result .significand) (at .normalized .result .exponent) (c .nearest-root .result) (root (at .before .args .x))
+given c = let at = c .before .before .before .before in answer (at .before .args .x) (c .nearest-root .result) (search needs) (at .before .pre) (at .normalized .ensures) (c .nearest-root .ensures)
 
 add-result : tie.Need-add-result
 add-result c = search needs
@@ -48,6 +51,7 @@ positive-root-spec =
     normalized-requires
     add-nearest-root
     mul-nearest-root
+    guess-requires
     nearest-root-requires
     add-result
     mul-result
