@@ -10,7 +10,6 @@ use replay::Tally;
 use replay::Turn;
 use replay::lend_words;
 use replay::one_answer;
-ghost use mathlib.Core.Path.{_≡_};
 ghost use Prim.Native.Nat.{_*_, _/_, _≤_, _<_};
 ghost use lib.ListN.{length};
 ghost use Rattle.replay.specs.Cursors.{Within};

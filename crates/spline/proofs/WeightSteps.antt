@@ -1,6 +1,6 @@
 -- What the pass over the weights and the branches of their check show, over plain values. Assumes nothing.
 use mathlib.Core.Path.{_≡_, refl, sym, ap, _∙_}
-use mathlib.Core.Bool.{Bool, true, false, not, cond, _&&_, _||_, and-true, and-self, and-assoc, and-eq-true-iff, or-true}
+use mathlib.Core.Bool.{Bool, true, false, not, cond, _&&_, and-true, and-self, and-assoc, and-eq-true-iff, or-true}
 use mathlib.Core.List.{List, [], _∷_}
 use Prim.Native.Nat.{ℕ, suc, _+_, _*_, _≤_, _<_}
 use native.Mathlib.Numerals.{add-one}

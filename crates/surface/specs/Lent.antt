@@ -1,16 +1,13 @@
 -- What the functions of an evaluation are lent: an axis, and of a patch its controls, weights and bases. Definitions only.
-use mathlib.Core.Path.{_≡_}
-use mathlib.Core.Bool.{true, false}
+use mathlib.Core.Bool.{false}
 use mathlib.Core.List.{List, []}
-use Prim.Native.Nat.{ℕ, _+_, _*_, _≤_, _<_}
-use lib.ListN.{length, replicate}
+use Prim.Native.Nat.{ℕ, _+_, _*_, _≤_}
+use lib.ListN.{replicate}
 use lib.Ieee.{Float, nan}
 use Rattle.spline.specs.declared.parameter.KnotSide.the-variants.{Right}
 use Rattle.spline.specs.Knots.{Axis, axis, low, high}
-use Rattle.basis.specs.declared.Basis.{Basis}
 use Rattle.basis.specs.Basis.{Three, three, Sample, basisAt}
 use Rattle.surface.specs.declared.Counts.{Counts}
-use Rattle.surface.specs.declared.Shape.{Shape}
 use Rattle.surface.specs.Surface.{Surface, surface, wrapped}
 
 abbrev pub axisOf : Counts → List Float → Axis

@@ -3,15 +3,12 @@ use borrow.Author.Needs.{needs}
 use Rattle.seeds.proofs.grid.square_of.Statement.{statement}
 use Rattle.seeds.proofs.grid.square_of.Tie as tie
 
--- src/grid.rt:41:9
 sub-requires : tie.Need-sub-requires
 sub-requires c κs = search needs
 
--- src/grid.rt:42:5
 dot-requires : tie.Need-dot-requires
 dot-requires c κs = search needs
 
--- src/grid.rt:38:1
 returns : tie.Need-returns
 returns c = simp (c .dot .ensures, c .before .sub .ensures)
 

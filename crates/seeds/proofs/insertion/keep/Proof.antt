@@ -9,15 +9,12 @@ use borrow.Author.Needs.{needs}
 use Rattle.seeds.proofs.insertion.keep.Statement.{statement}
 use Rattle.seeds.proofs.insertion.keep.Tie as tie
 
--- src/insertion.rt:75:9
 root-requires : tie.Need-root-requires
 root-requires c κs = search needs
 
--- src/insertion.rt:77:20
 element-copy-out-last : tie.Need-element-copy-out-last
 element-copy-out-last c = search needs
 
--- src/insertion.rt:79:13
 returns : tie.Need-returns
 returns c =
     let full = c .before .before .before in
@@ -26,11 +23,9 @@ returns c =
     let n = no-nearer s (a .args .square) (full .before .root .ensures) (held-count s (a .pre .0) (search (unmapped))) (full .if1 .taken) (a .pre .1) (a .pre .2) (a .pre .3) (c .if2 .taken) (a .args .u) (a .args .v) in
     (n .0, a .pre .0, n .1)
 
--- src/insertion.rt:85:9
 enter-requires : tie.Need-enter-requires
 enter-requires c κs = search needs
 
--- src/insertion.rt:71:1
 returns-2 : tie.Need-returns-2
 returns-2 c =
     let at = c .before .before in

@@ -4,21 +4,17 @@ use borrow.Author.Needs.{needs}
 use Rattle.seeds.proofs.table.reweigh.Statement.{statement}
 use Rattle.seeds.proofs.table.reweigh.Tie as tie
 
--- src/table.rt:63:16
 add-if1 : tie.Need-add-if1
 add-if1 c = search needs
 
--- src/table.rt:64:9
 weigh-requires : tie.Need-weigh-requires
 weigh-requires c κs =
     let pre = c .before .before .before .pre in
     (pre .0, pre .1, pre .2 .whole)
 
--- src/table.rt:51:1
 returns : tie.Need-returns
 returns c = newly-held (c .weigh .ensures)
 
--- src/table.rt:51:1
 returns-2 : tie.Need-returns-2
 returns-2 c = same-held (c .if1 .left) (c .before .before .pre .2)
 

@@ -7,15 +7,12 @@ use borrow.Author.Needs.{needs}
 use Rattle.surface.proofs.jets.surface_jet.Statement.{statement}
 use Rattle.surface.proofs.jets.surface_jet.Tie as tie
 
--- src/jets.rt:48:9
 sample-requires : tie.Need-sample-requires
 sample-requires c κs = (accepted-surface _ (c .before .before .before .before .before .pre) .knots-u, search needs)
 
--- src/jets.rt:49:9
 sample-requires-2 : tie.Need-sample-requires-2
 sample-requires-2 c κs = (accepted-surface _ (c .before .before .before .before .before .before .before .pre) .knots-v, search needs)
 
--- src/jets.rt:52:9
 returns : tie.Need-returns
 returns c =
     let two = c .before .before .before in
@@ -24,7 +21,6 @@ returns c =
     let s = surface (a .args .shape) (a .args .ku .now) (a .args .kv .now) (a .args .controls .now) (a .args .weights .now) in
     not-both s (a .pre) _ _ _ _ (one .sample .last .1 .1 .1 .0) (two .sample2 .last .1 .1 .1 .0) (one .sample .ensures) (two .sample2 .ensures) _ (not-true _ (c .if1 .taken))
 
--- src/jets.rt:55:5
 weigh-requires : tie.Need-weigh-requires
 weigh-requires c κs =
     let arm = c .before in
@@ -34,7 +30,6 @@ weigh-requires c κs =
     let s = surface (a .args .shape) (a .args .ku .now) (a .args .kv .now) (a .args .controls .now) (a .args .weights .now) in
     (weights-lent s (a .pre), patch-at s (a .pre) _ _ _ _ (one .sample .last .1 .1 .1 .0) (two .sample2 .last .1 .1 .1 .0) (one .sample .ensures) (two .sample2 .ensures) (not-false _ (arm .if1 .left)), search needs)
 
--- src/jets.rt:56:5
 blend-requires : tie.Need-blend-requires
 blend-requires c κs =
     let arm = c .before .before .before .before .before in
@@ -44,7 +39,6 @@ blend-requires c κs =
     let s = surface (a .args .shape) (a .args .ku .now) (a .args .kv .now) (a .args .controls .now) (a .args .weights .now) in
     (controls-lent s (a .pre), patch-at s (a .pre) _ _ _ _ (one .sample .last .1 .1 .1 .0) (two .sample2 .last .1 .1 .1 .0) (one .sample .ensures) (two .sample2 .ensures) (not-false _ (arm .if1 .left)))
 
--- src/jets.rt:33:1
 returns-2 : tie.Need-returns-2
 returns-2 c =
     let weighed = c .before .before .before .before in

@@ -20,86 +20,66 @@ Inv-loop controls net from a v at count sums₀ j₀ sums j =
 abbrev μ-loop : tie.MeasureT-loop
 μ-loop controls net from a v at count sums₀ j₀ sums j = count - j
 
--- src/sums.rt:123:5
 loop-holds : tie.Need-loop-holds Inv-loop μ-loop
 loop-holds c = (omega arith, simp (add-zero, sub-zero))
 
--- src/sums.rt:125:20
 mul-t15 : tie.Need-mul-t15 Inv-loop μ-loop
 mul-t15 c = search needs
 
--- src/sums.rt:125:20
 index-1-t18 : tie.Need-index-1-t18 Inv-loop μ-loop
 index-1-t18 c = search needs
 
--- src/sums.rt:125:20
 index-2-t18 : tie.Need-index-2-t18 Inv-loop μ-loop
 index-2-t18 c = search needs
 
--- src/sums.rt:126:20
 mul-t21 : tie.Need-mul-t21 Inv-loop μ-loop
 mul-t21 c = search needs
 
--- src/sums.rt:126:20
 index-1-t24 : tie.Need-index-1-t24 Inv-loop μ-loop
 index-1-t24 c = search needs
 
--- src/sums.rt:126:20
 index-2-t24 : tie.Need-index-2-t24 Inv-loop μ-loop
 index-2-t24 c = search needs
 
--- src/sums.rt:127:21
 mul-with : tie.Need-mul-with Inv-loop μ-loop
 mul-with c = search needs
 
--- src/sums.rt:127:21
 index-1-with : tie.Need-index-1-with Inv-loop μ-loop
 index-1-with c = search needs
 
--- src/sums.rt:127:21
 index-2-with : tie.Need-index-2-with Inv-loop μ-loop
 index-2-with c = search needs
 
--- src/sums.rt:129:31
 add-with : tie.Need-add-with Inv-loop μ-loop
 add-with c = search needs
 
--- src/sums.rt:129:27
 mul-with-2 : tie.Need-mul-with-2 Inv-loop μ-loop
 mul-with-2 c = search needs
 
--- src/sums.rt:129:27
 element-copy-out-with : tie.Need-element-copy-out-with Inv-loop μ-loop
 element-copy-out-with c = search needs
 
--- src/sums.rt:129:60
 add-control : tie.Need-add-control Inv-loop μ-loop
 add-control c = search needs
 
--- src/sums.rt:129:42
 control-requires : tie.Need-control-requires Inv-loop μ-loop
 control-requires c κs = search needs
 
--- src/sums.rt:129:9
 with-requires : tie.Need-with-requires Inv-loop μ-loop
 with-requires c κs = search needs
 
--- src/sums.rt:123:9
 add-j : tie.Need-add-j Inv-loop μ-loop
 add-j c = search needs
 
--- src/sums.rt:123:5
 loop-less : tie.Need-loop-less Inv-loop μ-loop
 loop-less c = search needs
 
--- src/sums.rt:123:5
 loop-again : tie.Need-loop-again Inv-loop μ-loop
 loop-again c =
     let turn = c .before .before .before .before .before .before in
     let at = turn .before in
     (omega arith, go (along-fold with _ _ _ _ _ _) _ (at .loop .j) _ _ (at .loop .inv .1) (omega arith) _ (turn-point with _ _ _ _ (c .with .ensures) (c .before .control .ensures)))
 
--- src/sums.rt:109:1
 returns : tie.Need-returns Inv-loop μ-loop
 returns c = stop (along-fold with _ _ _ _ _ _) _ (c .before .loop .j) _ _ (c .before .loop .inv .1) (omega arith)
 

@@ -4,15 +4,12 @@ use borrow.Author.Needs.{needs}
 use Rattle.surface.proofs.sums.blend.Statement.{statement}
 use Rattle.surface.proofs.sums.blend.Tie as tie
 
--- src/sums.rt:177:14
 over-requires : tie.Need-over-requires
 over-requires c κs = search needs
 
--- src/sums.rt:177:5
 rational-requires : tie.Need-rational-requires
 rational-requires c κs = search needs
 
--- src/sums.rt:165:1
 returns : tie.Need-returns
 returns c = λ ku kv ws m w.
     let a = c .before .before .before .args in

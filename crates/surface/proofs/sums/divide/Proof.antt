@@ -17,35 +17,27 @@ Inv-loop net₀ count most i₀ net i =
 abbrev μ-loop : tie.MeasureT-loop
 μ-loop net₀ count most i₀ net i = count - i
 
--- src/sums.rt:72:5
 loop-holds : tie.Need-loop-holds Inv-loop μ-loop
 loop-holds c = (omega arith, c .pre .1, refl)
 
--- src/sums.rt:73:18
 mul-net : tie.Need-mul-net Inv-loop μ-loop
 mul-net c = search needs
 
--- src/sums.rt:73:18
 element-copy-out-net : tie.Need-element-copy-out-net Inv-loop μ-loop
 element-copy-out-net c = search needs
 
--- src/sums.rt:73:9
 mul-net-2 : tie.Need-mul-net-2 Inv-loop μ-loop
 mul-net-2 c = search needs
 
--- src/sums.rt:73:9
 element-write-net : tie.Need-element-write-net Inv-loop μ-loop
 element-write-net c = search needs
 
--- src/sums.rt:72:9
 add-i : tie.Need-add-i Inv-loop μ-loop
 add-i c = search needs
 
--- src/sums.rt:72:5
 loop-less : tie.Need-loop-less Inv-loop μ-loop
 loop-less c = search needs
 
--- src/sums.rt:72:5
 loop-again : tie.Need-loop-again Inv-loop μ-loop
 loop-again c =
     let at = c .before .before .loop in
@@ -53,7 +45,6 @@ loop-again c =
     let pre = start .pre in
     (omega arith, simp length-set (at .inv .1), divided-more (start .args .most) (start .args .count) _ (at .net) (at .i) (at .inv .2) (omega arith) (omega (arith, pre .0)))
 
--- src/sums.rt:68:1
 returns : tie.Need-returns Inv-loop μ-loop
 returns c =
     let at = c .before .loop in

@@ -21,77 +21,60 @@ Inv-loop controls net u row v column columns stride sums₀ i₀ i-end sums i =
 abbrev μ-loop : tie.MeasureT-loop
 μ-loop controls net u row v column columns stride sums₀ i₀ i-end sums i = i-end - i
 
--- src/sums.rt:149:19
 add-columns : tie.Need-add-columns Inv-loop μ-loop
 add-columns c = search needs
 
--- src/sums.rt:151:9
 empty-sums-requires : tie.Need-empty-sums-requires Inv-loop μ-loop
 empty-sums-requires c κs = search needs
 
--- src/sums.rt:152:17
 add-i-end : tie.Need-add-i-end Inv-loop μ-loop
 add-i-end c = search needs
 
--- src/sums.rt:152:5
 loop-holds : tie.Need-loop-holds Inv-loop μ-loop
 loop-holds c = (omega arith, simp (add-zero, sub-zero, zero-mul, c .before .empty-sums .ensures))
 
--- src/sums.rt:154:20
 mul-t20 : tie.Need-mul-t20 Inv-loop μ-loop
 mul-t20 c = search needs
 
--- src/sums.rt:154:20
 index-1-t23 : tie.Need-index-1-t23 Inv-loop μ-loop
 index-1-t23 c = search needs
 
--- src/sums.rt:154:20
 index-2-t23 : tie.Need-index-2-t23 Inv-loop μ-loop
 index-2-t23 c = search needs
 
--- src/sums.rt:155:20
 mul-t26 : tie.Need-mul-t26 Inv-loop μ-loop
 mul-t26 c = search needs
 
--- src/sums.rt:155:20
 index-1-t29 : tie.Need-index-1-t29 Inv-loop μ-loop
 index-1-t29 c = search needs
 
--- src/sums.rt:155:20
 index-2-t29 : tie.Need-index-2-t29 Inv-loop μ-loop
 index-2-t29 c = search needs
 
--- src/sums.rt:156:21
 mul-t32 : tie.Need-mul-t32 Inv-loop μ-loop
 mul-t32 c = search needs
 
--- src/sums.rt:156:21
 index-1-t35 : tie.Need-index-1-t35 Inv-loop μ-loop
 index-1-t35 c = search needs
 
--- src/sums.rt:156:21
 index-2-t35 : tie.Need-index-2-t35 Inv-loop μ-loop
 index-2-t35 c = search needs
 
--- src/sums.rt:158:19
 add-at : tie.Need-add-at Inv-loop μ-loop
 add-at c = search needs
 
--- src/sums.rt:158:18
 mul-at : tie.Need-mul-at Inv-loop μ-loop
 mul-at c =
     let turn = c .before .before .before in
     let pre = turn .before .before .before .before .before .before .before .before .pre in
     omega (arith, row-inside (turn .before .loop .i) (pre .1 .inside) (turn .loop-test .taken))
 
--- src/sums.rt:158:18
 add-at-2 : tie.Need-add-at-2 Inv-loop μ-loop
 add-at-2 c =
     let turn = c .before .before .before in
     let pre = turn .before .before .before .before .before .before .before .before .pre in
     omega (arith, row-inside (turn .before .loop .i) (pre .1 .inside) (turn .loop-test .taken))
 
--- src/sums.rt:159:37
 mul-along : tie.Need-mul-along Inv-loop μ-loop
 mul-along c =
     let turn = c .before .before .before in
@@ -99,7 +82,6 @@ mul-along c =
     let columns = start .args .shape .v .degree + 1 in
     omega (arith, row-room (turn .before .loop .i) {columns = columns} (turn .loop-test .taken) (omega (arith, start .pre .1 .rows-most)) (omega (arith, start .pre .1 .columns-most)))
 
--- src/sums.rt:159:9
 along-requires : tie.Need-along-requires Inv-loop μ-loop
 along-requires c κs =
     let turn = c .before .before .before in
@@ -107,17 +89,14 @@ along-requires c κs =
     let pre = turn .before .before .before .before .before .before .before .before .pre in
     (omega (arith, pre .1 .columns-most), row-room i (turn .loop-test .taken) (omega (arith, pre .1 .rows-most)) (omega (arith, pre .1 .columns-most)), omega (arith, pre .0, row-inside i (pre .1 .inside) (turn .loop-test .taken)))
 
--- src/sums.rt:152:9
 add-i : tie.Need-add-i Inv-loop μ-loop
 add-i c =
     let turn = c .before .before .before .before in
     omega (arith, turn .loop-test .taken, turn .before .before .before .before .before .before .before .before .pre .1 .rows-most)
 
--- src/sums.rt:152:5
 loop-less : tie.Need-loop-less Inv-loop μ-loop
 loop-less c = search needs
 
--- src/sums.rt:152:5
 loop-again : tie.Need-loop-again Inv-loop μ-loop
 loop-again c =
     let turn = c .before .before .before .before in
@@ -125,7 +104,6 @@ loop-again c =
     let more = turn .loop-test .taken in
     (omega (arith, more), go (over-fold with _ _ _ _ _ _ _ _) _ (l .i) _ _ (l .inv .1) more _ (c .along .ensures))
 
--- src/sums.rt:135:1
 returns : tie.Need-returns Inv-loop μ-loop
 returns c = stop (over-fold with _ _ _ _ _ _ _ _) _ (c .before .loop .i) _ _ (c .before .loop .inv .1) (omega arith)
 

@@ -28,47 +28,36 @@ Inv-loop weights scale at count w net₀ from most₀ j₀ net most j =
 abbrev μ-loop : tie.MeasureT-loop
 μ-loop weights scale at count w net₀ from most₀ j₀ net most j = count - j
 
--- src/sums.rt:37:5
 loop-holds : tie.Need-loop-holds Inv-loop μ-loop
 loop-holds c = (omega arith, simp (add-zero, sub-zero), c .before .pre .2, simp (add-zero, sub-zero), c .before .pre .3)
 
--- src/sums.rt:38:30
 add-scaled : tie.Need-add-scaled Inv-loop μ-loop
 add-scaled c = search needs
 
--- src/sums.rt:38:22
 mul-scaled : tie.Need-mul-scaled Inv-loop μ-loop
 mul-scaled c = search needs
 
--- src/sums.rt:38:22
 shared-slice-read-scaled : tie.Need-shared-slice-read-scaled Inv-loop μ-loop
 shared-slice-read-scaled c = search needs
 
--- src/sums.rt:39:13
 add-net : tie.Need-add-net Inv-loop μ-loop
 add-net c = search needs
 
--- src/sums.rt:39:9
 mul-net : tie.Need-mul-net Inv-loop μ-loop
 mul-net c = search needs
 
--- src/sums.rt:39:9
 element-write-net : tie.Need-element-write-net Inv-loop μ-loop
 element-write-net c = search needs
 
--- src/sums.rt:40:9
 larger-requires : tie.Need-larger-requires Inv-loop μ-loop
 larger-requires c κs = c .before .before .loop .inv .4
 
--- src/sums.rt:37:9
 add-j : tie.Need-add-j Inv-loop μ-loop
 add-j c = search needs
 
--- src/sums.rt:37:5
 loop-less : tie.Need-loop-less Inv-loop μ-loop
 loop-less c = search needs
 
--- src/sums.rt:37:5
 loop-again : tie.Need-loop-again Inv-loop μ-loop
 loop-again c =
     let at = c .before .before .before in
@@ -81,7 +70,6 @@ loop-again c =
       c .larger .ensures .1,
     )
 
--- src/sums.rt:24:1
 returns : tie.Need-returns Inv-loop μ-loop
 returns c =
     let l = c .before .loop in

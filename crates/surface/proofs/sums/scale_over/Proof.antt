@@ -31,30 +31,24 @@ Inv-loop weights scale stride row rows column columns net₀ most₀ i₀ net mo
 abbrev μ-loop : tie.MeasureT-loop
 μ-loop weights scale stride row rows column columns net₀ most₀ i₀ net most i = rows - i
 
--- src/sums.rt:60:5
 loop-holds : tie.Need-loop-holds Inv-loop μ-loop
 loop-holds c = (omega arith, simp (add-zero, sub-zero), c .before .pre .3, simp (add-zero, sub-zero, zero-mul), nonneg→number zero-nonneg)
 
--- src/sums.rt:61:19
 add-at : tie.Need-add-at Inv-loop μ-loop
 add-at c = search needs
 
--- src/sums.rt:61:18
 mul-at : tie.Need-mul-at Inv-loop μ-loop
 mul-at c = omega (arith, row-inside (c .before .loop .i) (c .before .before .before .pre .0) (c .loop-test .taken))
 
--- src/sums.rt:61:18
 add-at-2 : tie.Need-add-at-2 Inv-loop μ-loop
 add-at-2 c = omega (arith, row-inside (c .before .loop .i) (c .before .before .before .pre .0) (c .loop-test .taken))
 
--- src/sums.rt:62:68
 mul-scale-along : tie.Need-mul-scale-along Inv-loop μ-loop
 mul-scale-along c =
     let turn = c .before in
     let pre = turn .before .before .before .pre in
     omega (arith, row-room (turn .before .loop .i) (turn .loop-test .taken) (pre .1) (pre .2))
 
--- src/sums.rt:62:9
 scale-along-requires : tie.Need-scale-along-requires Inv-loop μ-loop
 scale-along-requires c κs =
     let turn = c .before in
@@ -62,15 +56,12 @@ scale-along-requires c κs =
     let pre = turn .before .before .before .pre in
     (row-inside i (pre .0) (turn .loop-test .taken), row-room i (turn .loop-test .taken) (pre .1) (pre .2), turn .before .loop .inv .2, turn .before .loop .inv .4)
 
--- src/sums.rt:60:9
 add-i : tie.Need-add-i Inv-loop μ-loop
 add-i c = search needs
 
--- src/sums.rt:60:5
 loop-less : tie.Need-loop-less Inv-loop μ-loop
 loop-less c = search needs
 
--- src/sums.rt:60:5
 loop-again : tie.Need-loop-again Inv-loop μ-loop
 loop-again c =
     let turn = c .before .before in
@@ -84,7 +75,6 @@ loop-again c =
       e .3,
     )
 
--- src/sums.rt:46:1
 returns : tie.Need-returns Inv-loop μ-loop
 returns c =
     let l = c .before .loop in

@@ -19,58 +19,45 @@ Inv-loop controls net from a v at count sum₀ j₀ sum j =
 abbrev μ-loop : tie.MeasureT-loop
 μ-loop controls net from a v at count sum₀ j₀ sum j = count - j
 
--- src/sums.rt:182:5
 loop-holds : tie.Need-loop-holds Inv-loop μ-loop
 loop-holds c = (omega arith, simp (add-zero, sub-zero))
 
--- src/sums.rt:183:24
 mul-more : tie.Need-mul-more Inv-loop μ-loop
 mul-more c = search needs
 
--- src/sums.rt:183:24
 element-copy-out-more : tie.Need-element-copy-out-more Inv-loop μ-loop
 element-copy-out-more c = search needs
 
--- src/sums.rt:183:35
 add-more : tie.Need-add-more Inv-loop μ-loop
 add-more c = search needs
 
--- src/sums.rt:183:31
 mul-more-2 : tie.Need-mul-more-2 Inv-loop μ-loop
 mul-more-2 c = search needs
 
--- src/sums.rt:183:31
 element-copy-out-more-2 : tie.Need-element-copy-out-more-2 Inv-loop μ-loop
 element-copy-out-more-2 c = search needs
 
--- src/sums.rt:183:64
 add-control : tie.Need-add-control Inv-loop μ-loop
 add-control c = search needs
 
--- src/sums.rt:183:46
 control-requires : tie.Need-control-requires Inv-loop μ-loop
 control-requires c κs = search needs
 
--- src/sums.rt:183:9
 more-requires : tie.Need-more-requires Inv-loop μ-loop
 more-requires c κs = search needs
 
--- src/sums.rt:182:9
 add-j : tie.Need-add-j Inv-loop μ-loop
 add-j c = search needs
 
--- src/sums.rt:182:5
 loop-less : tie.Need-loop-less Inv-loop μ-loop
 loop-less c = search needs
 
--- src/sums.rt:182:5
 loop-again : tie.Need-loop-again Inv-loop μ-loop
 loop-again c =
     let turn = c .before .before .before .before in
     let at = turn .before in
     (omega arith, go (along-fold term _ _ _ _ _ _) _ (at .loop .j) _ _ (at .loop .inv .1) (omega arith) _ (turn-point term _ _ _ _ (c .more .ensures) (c .before .control .ensures)))
 
--- src/sums.rt:168:1
 returns : tie.Need-returns Inv-loop μ-loop
 returns c = stop (along-fold term _ _ _ _ _ _) _ (c .before .loop .j) _ _ (c .before .loop .inv .1) (omega arith)
 

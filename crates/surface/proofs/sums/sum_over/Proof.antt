@@ -21,58 +21,47 @@ Inv-loop controls net u row v column columns stride sum₀ i₀ i-end sum i =
 abbrev μ-loop : tie.MeasureT-loop
 μ-loop controls net u row v column columns stride sum₀ i₀ i-end sum i = i-end - i
 
--- src/sums.rt:203:19
 add-columns : tie.Need-add-columns Inv-loop μ-loop
 add-columns c = search needs
 
--- src/sums.rt:205:9
 empty-sum-requires : tie.Need-empty-sum-requires Inv-loop μ-loop
 empty-sum-requires c κs = search needs
 
--- src/sums.rt:206:17
 add-i-end : tie.Need-add-i-end Inv-loop μ-loop
 add-i-end c = search needs
 
--- src/sums.rt:206:5
 loop-holds : tie.Need-loop-holds Inv-loop μ-loop
 loop-holds c = (omega arith, simp (add-zero, sub-zero, zero-mul, c .before .empty-sum .ensures))
 
--- src/sums.rt:207:19
 add-at : tie.Need-add-at Inv-loop μ-loop
 add-at c = search needs
 
--- src/sums.rt:207:18
 mul-at : tie.Need-mul-at Inv-loop μ-loop
 mul-at c =
     let pre = c .before .before .before .before .before .before .before .before .pre in
     omega (arith, row-inside (c .before .loop .i) (pre .1 .inside) (c .loop-test .taken))
 
--- src/sums.rt:207:18
 add-at-2 : tie.Need-add-at-2 Inv-loop μ-loop
 add-at-2 c =
     let pre = c .before .before .before .before .before .before .before .before .pre in
     omega (arith, row-inside (c .before .loop .i) (pre .1 .inside) (c .loop-test .taken))
 
--- src/sums.rt:208:40
 mul-sum-along : tie.Need-mul-sum-along Inv-loop μ-loop
 mul-sum-along c =
     let start = c .before .before .before .before .before .before .before .before in
     let columns = start .args .shape .v .degree + 1 in
     omega (arith, row-room (c .before .loop .i) {columns = columns} (c .loop-test .taken) (omega (arith, start .pre .1 .rows-most)) (omega (arith, start .pre .1 .columns-most)))
 
--- src/sums.rt:208:53
 mul-sum-along-2 : tie.Need-mul-sum-along-2 Inv-loop μ-loop
 mul-sum-along-2 c =
     let pre = c .before .before .before .before .before .before .before .before .pre in
     omega (arith, pre .1 .rows-most)
 
--- src/sums.rt:208:53
 element-copy-out-sum-along : tie.Need-element-copy-out-sum-along Inv-loop μ-loop
 element-copy-out-sum-along c =
     let pre = c .before .before .before .before .before .before .before .before .pre in
     omega (arith, pre .1 .rows-most)
 
--- src/sums.rt:208:9
 sum-along-requires : tie.Need-sum-along-requires Inv-loop μ-loop
 sum-along-requires c κs =
     let turn = c .before in
@@ -80,17 +69,14 @@ sum-along-requires c κs =
     let pre = turn .before .before .before .before .before .before .before .before .pre in
     (omega (arith, pre .1 .columns-most), row-room i (turn .loop-test .taken) (omega (arith, pre .1 .rows-most)) (omega (arith, pre .1 .columns-most)), omega (arith, pre .0, row-inside i (pre .1 .inside) (turn .loop-test .taken)))
 
--- src/sums.rt:206:9
 add-i : tie.Need-add-i Inv-loop μ-loop
 add-i c =
     let turn = c .before .before in
     omega (arith, turn .loop-test .taken, turn .before .before .before .before .before .before .before .before .pre .1 .rows-most)
 
--- src/sums.rt:206:5
 loop-less : tie.Need-loop-less Inv-loop μ-loop
 loop-less c = search needs
 
--- src/sums.rt:206:5
 loop-again : tie.Need-loop-again Inv-loop μ-loop
 loop-again c =
     let turn = c .before .before in
@@ -98,7 +84,6 @@ loop-again c =
     let more = turn .loop-test .taken in
     (omega (arith, more), go (over-fold term _ _ _ _ _ _ _ _) _ (l .i) _ _ (l .inv .1) more _ (c .sum-along .ensures))
 
--- src/sums.rt:189:1
 returns : tie.Need-returns Inv-loop μ-loop
 returns c = stop (over-fold term _ _ _ _ _ _ _ _) _ (c .before .loop .i) _ _ (c .before .loop .inv .1) (omega arith)
 

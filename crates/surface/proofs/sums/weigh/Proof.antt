@@ -1,37 +1,30 @@
 -- The weights are divided twice: as they are gathered, and by the largest that was met.
-use Prim.Native.Nat.{_≤_}
 use native.Mathlib.Omega.{arith}
 use Rattle.surface.proofs.NetSteps.{patch-room, weighed}
 use borrow.Author.Needs.{needs}
 use Rattle.surface.proofs.sums.weigh.Statement.{statement}
 use Rattle.surface.proofs.sums.weigh.Tie as tie
 
--- src/sums.rt:91:16
 add-rows : tie.Need-add-rows
 add-rows c = search needs
 
--- src/sums.rt:92:19
 add-columns : tie.Need-add-columns
 add-columns c = search needs
 
--- src/sums.rt:93:9
 scale-over-requires : tie.Need-scale-over-requires
 scale-over-requires c κs =
     let pre = c .before .before .before .before .before .before .pre in
     let p = pre .1 in
     (rw (pre .0) (p .inside), omega (arith, p .rows-most), omega (arith, p .columns-most), pre .2)
 
--- src/sums.rt:94:17
 mul-divide : tie.Need-mul-divide
 mul-divide c = let pre = c .before .before .before .before .before .before .before .before .pre in omega (arith, patch-room (pre .1))
 
--- src/sums.rt:94:5
 divide-requires : tie.Need-divide-requires
 divide-requires c κs =
     let pre = c .before .before .before .before .before .before .before .before .pre in
     (patch-room (pre .1), c .before .scale-over .ensures .2)
 
--- src/sums.rt:78:1
 returns : tie.Need-returns
 returns c =
     let e = c .before .before .scale-over .ensures in
