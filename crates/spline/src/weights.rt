@@ -1,7 +1,7 @@
 // The homogeneous scales of the controls.
 use float64::is_finite;
 ghost use mathlib.Core.Path.{_≡_};
-ghost use mathlib.Core.Bool.{true, _&&_};
+ghost use mathlib.Core.Bool.{_&&_};
 ghost use lib.Ieee.{lt};
 ghost use Rattle.float64.specs.Operators.{0·};
 ghost use Rattle.spline.specs.Weights.{weighed};
