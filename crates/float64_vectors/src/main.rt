@@ -51,14 +51,14 @@ fn outcome(bytes: &[u8; RECORD], got: usize) -> usize
     if got < RECORD {
         return UNREAD;
     }
-    let call = answers::word_at(bytes, 0);
+    let call = words::word_at(bytes, 0);
     if 6 < call {
         return UNREAD;
     }
-    let x = answers::float(answers::word_at(bytes, 8));
-    let y = answers::float(answers::word_at(bytes, 16));
-    let z = answers::float(answers::word_at(bytes, 24));
-    if agrees(call, x, y, z, answers::word_at(bytes, 32)) {
+    let x = words::float(words::word_at(bytes, 8));
+    let y = words::float(words::word_at(bytes, 16));
+    let z = words::float(words::word_at(bytes, 24));
+    if agrees(call, x, y, z, words::word_at(bytes, 32)) {
         return call as usize;
     }
     CALLS + call as usize

@@ -6,7 +6,7 @@ use native.Mathlib.Omega.{arith}
 use lib.ListN.{length, take, drop, take-append-drop}
 use lib.Seq.{take-at, drop-at}
 use lib.Ieee.{Float}
-use Rattle.answers.specs.Words.{littleEndian}
+use Rattle.words.specs.Words.{littleEndian}
 use Rattle.digits.specs.Text.{Put, written}
 use Rattle.surface.specs.declared.Shape.{Shape}
 use Rattle.surface.specs.Surface.{surface}

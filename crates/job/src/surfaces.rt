@@ -54,7 +54,7 @@ fn print_numbers(bytes: &[u8], shape: Shape, marks: usize, numbers: &[f64], out:
     let d = c + total;
     let at = 9 + 8 * d;
     let tolerance = number_at(bytes, at + 2);
-    let budget = answers::word_at(bytes, at + 10);
+    let budget = words::word_at(bytes, at + 10);
     let from = put_marks(out, 0, marks);
     print_row(
         shape,

@@ -11,7 +11,7 @@ use lib.ListN.{length, drop, getD, length-drop, drop-of-length-le}
 use lib.Seq.{drop-cons, drop-drop, getD-drop}
 use lib.Ieee.{binary64, ofBits}
 use borrow.Author.Tests.{leb-true, le-leb}
-use Rattle.answers.specs.Words.{littleEndian}
+use Rattle.words.specs.Words.{littleEndian}
 use Rattle.digits.specs.Text.{ascii}
 use Rattle.surface.specs.declared.Shape.{Shape}
 use Rattle.job_format.specs.Format.{Read, malformed, read, _then_, mark, number, float, floats, flags, header, knots, controls, surfaceNumbers, termsRecord, markRecord, markRecords, ended, toTheEnd}

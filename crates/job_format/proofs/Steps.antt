@@ -10,7 +10,7 @@ use lib.ListN.{length, drop, getD, set, length-drop}
 use lib.Seq.{drop-cons, set-at}
 use lib.Ieee.{Float, nan}
 use borrow.Author.Tests.{lt-leb, le-leb}
-use Rattle.answers.specs.Words.{littleEndian}
+use Rattle.words.specs.Words.{littleEndian}
 use Rattle.surface.specs.declared.Shape.{Shape}
 use Rattle.job_format.specs.Format.{Read, malformed, read, _then_, header, shaped, surfaceNumbers, surfaceRecord, termsRecord, toTheEnd, records, parse}
 use Rattle.job_format.specs.Offsets.{isMark, floatAt, floatsAt, shapeAt, count, after, surfaceAt, termsAt, allMarks, marksAt, jobAt, fromNumbers}

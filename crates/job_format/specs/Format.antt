@@ -5,7 +5,7 @@ use Prim.Native.Nat.{ℕ, zero, suc, _+_, _*_, _/_, _%_}
 use lib.Dec.{leb, ltb, eqb}
 use lib.ListN.{length, drop}
 use lib.Ieee.{Float, binary64, ofBits}
-use Rattle.answers.specs.Words.{littleEndian}
+use Rattle.words.specs.Words.{littleEndian}
 use Rattle.digits.specs.Text.{ascii}
 use Rattle.vector3.specs.declared.Vector3.{Vector3}
 use Rattle.surface.specs.declared.Counts.{Counts}

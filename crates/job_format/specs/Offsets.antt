@@ -6,7 +6,7 @@ use Prim.Native.Nat.{ℕ, zero, suc, _+_, _*_, _≤_, _<_}
 use lib.Dec.{eqb}
 use lib.ListN.{getD}
 use lib.Ieee.{Float, binary64, ofBits}
-use Rattle.answers.specs.Words.{littleEndian}
+use Rattle.words.specs.Words.{littleEndian}
 use Rattle.vector3.specs.declared.Vector3.{Vector3}
 use Rattle.surface.specs.declared.Shape.{Shape}
 use Rattle.surface.specs.Surface.{Surface, surface}

@@ -2,11 +2,12 @@
 use surface::Counts;
 use surface::Shape;
 use vector3::Vector3;
+use words::pair_at;
+use words::wide;
 ghost use mathlib.Core.Path.{_≡_};
 ghost use mathlib.Core.List.{_++_};
 ghost use Prim.Native.Nat.{_+_, _*_, _^_, _≤_, _<_};
 ghost use lib.ListN.{length, drop};
-ghost use Rattle.answers.specs.Words.{littleEndian};
 ghost use Rattle.job_format.specs.Format.{parse, knots, controls};
 ghost use Rattle.job_format.specs.Offsets.{Small, Laid, told, fromNumbers, isMark, allMarks, shapeAt, after, floatAt, floatsAt, markAt};
 
@@ -51,7 +52,7 @@ pub fn number_at(bytes: &[u8], at: usize) -> f64
     requires { ⌜ at + 8 ≤ length (now bytes) ⌝ }
     ensures { λ r. ⌜ r ≡ floatAt (now (bytes .entry)) at ⌝ }
 {
-    answers::float(answers::word_at(bytes, at))
+    words::float(words::word_at(bytes, at))
 }
 
 // The mark whose record starts at index `at`.
@@ -123,13 +124,13 @@ fn shape_of(bytes: &[u8]) -> Shape
     let flags = bytes[8];
     Shape {
         u: Counts {
-            degree: wide(bytes[2]),
-            controls: pair_at(bytes, 4),
+            degree: wide(bytes[2]) as usize,
+            controls: pair_at(bytes, 4) as usize,
             periodic: flags % 2 == 1,
         },
         v: Counts {
-            degree: wide(bytes[3]),
-            controls: pair_at(bytes, 6),
+            degree: wide(bytes[3]) as usize,
+            controls: pair_at(bytes, 6) as usize,
             periodic: 1 < flags,
         },
     }
@@ -153,18 +154,4 @@ fn is_mark(bytes: &[u8], at: usize, first: u8, second: u8) -> bool
     ensures { λ r. ⌜ r ≡ isMark first second (now (bytes .entry)) at ⌝ }
 {
     (bytes[at] == first) & (bytes[at + 1] == second)
-}
-
-// Two bytes, the lower first.
-fn pair_at(bytes: &[u8], at: usize) -> usize
-    requires { ⌜ at + 2 ≤ length (now bytes) ⌝ }
-    ensures { λ r. ⌜ (r ≡ littleEndian 2 (now (bytes .entry)) at) × (r < 65536) ⌝ }
-{
-    wide(bytes[at]) + 256 * wide(bytes[at + 1])
-}
-
-fn wide(byte: u8) -> usize
-    ensures { λ r. ⌜ (r ≡ byte) × (r < 256) ⌝ }
-{
-    byte as usize
 }

@@ -4,7 +4,7 @@ use mathlib.Core.List.{List}
 use Prim.Native.Nat.{ℕ, _*_, _≤_, _<_}
 use lib.ListN.{length, take, getD}
 use lib.Ieee.{Float, nan, binary64, ofBits}
-use Rattle.answers.specs.Words.{littleEndian}
+use Rattle.words.specs.Words.{littleEndian}
 
 -- the first `count` words, as they are and as floats
 pub record Decoded (bytes : List ℕ) (count : ℕ) (words : List ℕ) (numbers : List Float) : Type 0 where

@@ -51,8 +51,8 @@ pub fn next_record(words: &mut [u64], numbers: &mut [f64]) -> Next
     if got < 16 {
         return no_record(Input::Short);
     }
-    let kind = answers::word_at(&head, 0);
-    let count = answers::word_at(&head, 8);
+    let kind = words::word_at(&head, 0);
+    let count = words::word_at(&head, 8);
     if 4094 < count {
         return no_record(Input::Long);
     }
@@ -75,8 +75,8 @@ fn decode(bytes: &[u8; 65536], count: usize, words: &mut [u64], numbers: &mut [f
     ensures { λ r. ⌜ Decoded (now (bytes .entry)) count (now (words .exit)) (now (numbers .exit)) ⌝ }
 {
     for i in 0..count {
-        let word = answers::word_at(bytes, 8 * i);
+        let word = words::word_at(bytes, 8 * i);
         words[i] = word;
-        numbers[i] = answers::float(word);
+        numbers[i] = words::float(word);
     }
 }

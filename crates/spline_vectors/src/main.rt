@@ -165,7 +165,7 @@ fn read_query(kind: u64, words: &[u64]) -> Query
         degree: degree.value as usize,
         controls: controls.value as usize,
         knots,
-        u: answers::float(parameter.value),
+        u: words::float(parameter.value),
         side,
         end,
     }

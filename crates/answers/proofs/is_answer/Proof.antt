@@ -10,7 +10,7 @@ use lib.Seq.{take-all}
 use lib.Ieee.{Float}
 use borrow.Author.Needs.{needs}
 use borrow.Author.Tests.{eq-eqb, ne-eqb}
-use Rattle.answers.specs.Words.{sameList, isAnswer}
+use Rattle.answers.specs.Stored.{sameList, isAnswer}
 use Rattle.answers.proofs.is_answer.Statement.{statement}
 use Rattle.answers.proofs.is_answer.Tie as tie
 

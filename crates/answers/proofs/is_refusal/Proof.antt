@@ -7,7 +7,7 @@ use native.Mathlib.Omega.{arith}
 use lib.Dec.{eqb}
 use lib.ListN.{length, getD}
 use borrow.Author.Needs.{needs}
-use Rattle.answers.specs.Words.{isRefusal}
+use Rattle.answers.specs.Stored.{isRefusal}
 use Rattle.answers.proofs.is_refusal.Statement.{statement}
 use Rattle.answers.proofs.is_refusal.Tie as tie
 

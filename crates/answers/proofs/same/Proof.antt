@@ -5,7 +5,7 @@ use Prim.Native.Nat.{_*_}
 use lib.Ieee.{Float, nan, inf, fin, ne, eq, isNan, up, down}
 use borrow.Author.Tests.{eq-eqb}
 use borrow.Author.Needs.{needs}
-use Rattle.answers.specs.Words.{sameBits}
+use Rattle.answers.specs.Stored.{sameBits}
 use Rattle.answers.proofs.same.Statement.{statement}
 use Rattle.answers.proofs.same.Tie as tie
 

@@ -10,7 +10,7 @@ use lib.Seq.{drop-cons}
 use lib.Ieee.{Float, nan}
 use borrow.Author.Needs.{needs}
 use borrow.Author.Tests.{not-true, not-false}
-use Rattle.answers.specs.Words.{sameBits, sameList}
+use Rattle.answers.specs.Stored.{sameBits, sameList}
 use Rattle.answers.proofs.same_list.Statement.{statement}
 use Rattle.answers.proofs.same_list.Tie as tie
 

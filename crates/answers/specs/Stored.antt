@@ -1,15 +1,9 @@
--- What the contracts cite: bytes as a word, and when a float is a stored answer. Definitions only.
+-- When a float is a stored answer. Definitions only.
 use mathlib.Core.Bool.{Bool, true, false, cond, _&&_}
 use mathlib.Core.List.{List, [], _∷_}
-use Prim.Native.Nat.{ℕ, zero, suc, _+_, _*_, _^_}
+use Prim.Native.Nat.{ℕ}
 use lib.Dec.{eqb}
-use lib.ListN.{getD}
 use lib.Ieee.{Float, binary64, isNan, nanBits, toBits}
-
--- the k bytes from index `at` on as digits of a number in base 256, the lowest first
-unfoldable pub littleEndian : ℕ → List ℕ → ℕ → ℕ
-littleEndian zero bytes at = 0
-littleEndian (suc k) bytes at = littleEndian k bytes at + getD bytes (at + k) 0 * 256 ^ k
 
 -- a NaN's bits are open, so a NaN is the same as any
 unfoldable pub sameBits : Float → ℕ → Bool

@@ -1,9 +1,9 @@
--- `answers::is_nan` meets its contract: with the sign's bit taken off, a NaN's pattern is above the infinity's. Assumes nothing.
+-- `words::is_nan` meets its contract: with the sign's bit taken off, a NaN's pattern is above the infinity's. Assumes nothing.
 use mathlib.Core.Path.{sym}
 use lib.Ieee.{binary64}
 use lib.Ieee.Bits.{nanBits-above}
-use Rattle.answers.proofs.is_nan.Statement.{statement}
-use Rattle.answers.proofs.is_nan.Tie as tie
+use Rattle.words.proofs.is_nan.Statement.{statement}
+use Rattle.words.proofs.is_nan.Tie as tie
 
 returns : tie.Need-returns
 returns c = sym (nanBits-above binary64 (c .args .bits))

@@ -1,11 +1,11 @@
--- `answers::float` meets its contract: what is read from a NaN's pattern is the one NaN. Assumes nothing.
+-- `words::float` meets its contract: what is read from a NaN's pattern is the one NaN. Assumes nothing.
 use mathlib.Core.Path.{_≡_, refl, sym, _∙_}
 use mathlib.Core.Bool.{true}
 use lib.Ieee.{Float, nan, inf, fin, binary64, isNan, ofBits, div}
 use lib.Ieee.Bits.{nanBits-is}
 use borrow.Author.Needs.{needs}
-use Rattle.answers.proofs.float.Statement.{statement}
-use Rattle.answers.proofs.float.Tie as tie
+use Rattle.words.proofs.float.Statement.{statement}
+use Rattle.words.proofs.float.Tie as tie
 
 the-nan : (x : Float) → isNan x ≡ true → nan ≡ x
 unfolding isNan

@@ -1,9 +1,9 @@
--- `job_format::pair_at` meets its contract: its sum is the definition's. Assumes nothing.
+-- `words::pair_at` meets its contract: its sum is the definition's. Assumes nothing.
 use native.Mathlib.Nat.{add-zero}
-use Rattle.answers.specs.Words.{littleEndian}
+use Rattle.words.specs.Words.{littleEndian}
 use borrow.Author.Needs.{needs}
-use Rattle.job_format.proofs.pair_at.Statement.{statement}
-use Rattle.job_format.proofs.pair_at.Tie as tie
+use Rattle.words.proofs.pair_at.Statement.{statement}
+use Rattle.words.proofs.pair_at.Tie as tie
 
 shared-slice-read-wide : tie.Need-shared-slice-read-wide
 shared-slice-read-wide c = search needs
