@@ -10,10 +10,10 @@ use lib.ListN.{length, drop, getD, set, length-drop}
 use lib.Seq.{drop-cons, set-at}
 use lib.Ieee.{Float, nan}
 use borrow.Author.Tests.{lt-leb, le-leb}
-use Rattle.words.specs.Words.{littleEndian}
 use Rattle.surface.specs.declared.Shape.{Shape}
-use Rattle.job_format.specs.Format.{Read, malformed, read, _then_, header, shaped, surfaceNumbers, surfaceRecord, termsRecord, toTheEnd, records, parse}
-use Rattle.job_format.specs.Offsets.{isMark, floatAt, floatsAt, shapeAt, count, after, surfaceAt, termsAt, allMarks, marksAt, jobAt, fromNumbers}
+use Rattle.surface.specs.Flags.{shapeOf}
+use Rattle.job_format.specs.Format.{Read, malformed, read, _then_, header, surfaceNumbers, surfaceRecord, termsRecord, toTheEnd, records, parse}
+use Rattle.job_format.specs.Offsets.{Small, isMark, floatAt, floatsAt, shapeAt, count, after, surfaceAt, termsAt, allMarks, marksAt, jobAt, fromNumbers}
 use Rattle.job_format.specs.OffsetLaws.{floats-length, floats-split}
 use Rattle.job_format.proofs.Pieces.{Takes, short, takes-header, takes-numbers, takes-terms, header-at, numbers-at, terms-at, end-at, left-over}
 
@@ -55,10 +55,10 @@ module _ (bytes : List ℕ) (at : ℕ) where
 pub product : (m n : ℕ) → m < 65536 → n < 65536 → m * n < 2 ^ 32
 product m n h k = let l : m * n ≤ m * 65536 = mul-le-mul-left m (omega arith) in omega arith
 
-pub shape-is : (bytes : List ℕ) (du dv nu nv : ℕ) → du ≡ getD bytes 2 0 → dv ≡ getD bytes 3 0 → nu ≡ littleEndian 2 bytes 4 → nv ≡ littleEndian 2 bytes 6
-    → shaped du dv nu nv (getD bytes 8 0) ≡ shapeAt bytes
-unfolding shapeAt
-shape-is bytes du dv nu nv a b c d = simp (a, b, c, d)
+module _ {du dv nu nv : ℕ} (hdu : du < 2 ^ 8) (hdv : dv < 2 ^ 8) (hnu : nu < 2 ^ 16) (hnv : nv < 2 ^ 16) where
+  pub shape-small : (f : ℕ) → Small (shapeOf du dv nu nv f)
+  unfolding shapeOf
+  shape-small f = record { degree-u = hdu; degree-v = hdv; controls-u = hnu; controls-v = hnv }
 
 -- ---- what follows the header
 

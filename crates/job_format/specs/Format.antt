@@ -1,8 +1,8 @@
 -- A job file as document 01 lays it out, read from its first byte to its last. Each piece takes its bytes from the front of those that are left. Definitions only.
 use mathlib.Core.Bool.{cond}
 use mathlib.Core.List.{List, [], _∷_}
-use Prim.Native.Nat.{ℕ, zero, suc, _+_, _*_, _/_, _%_}
-use lib.Dec.{leb, ltb, eqb}
+use Prim.Native.Nat.{ℕ, zero, suc, _+_, _*_, _/_}
+use lib.Dec.{leb, eqb}
 use lib.ListN.{length, drop}
 use lib.Ieee.{Float, binary64, ofBits}
 use Rattle.words.specs.Words.{littleEndian}
@@ -10,6 +10,7 @@ use Rattle.digits.specs.Text.{ascii}
 use Rattle.vector3.specs.declared.Vector3.{Vector3}
 use Rattle.surface.specs.declared.Counts.{Counts}
 use Rattle.surface.specs.declared.Shape.{Shape}
+use Rattle.surface.specs.Flags.{shapeOf}
 use Rattle.surface.specs.Surface.{Surface, surface}
 
 -- what a piece holds, with the bytes after it
@@ -48,10 +49,6 @@ flags bytes = number 1 bytes then λ f rest. cond (leb f 3) (read f rest) malfor
 
 -- ---- the records
 
-abbrev pub shaped : ℕ → ℕ → ℕ → ℕ → ℕ → Shape
-shaped du dv nu nv f =
-    record { u = record { degree = du; controls = nu; periodic = eqb (f % 2) 1 }; v = record { degree = dv; controls = nv; periodic = ltb 1 f } }
-
 -- what stands before the surface's numbers
 unfoldable pub header : List ℕ → Read Shape
 header bytes =
@@ -61,7 +58,7 @@ header bytes =
     number 2 rest then λ nu rest.
     number 2 rest then λ nv rest.
     flags rest then λ f rest.
-    read (shaped du dv nu nv f) rest
+    read (shapeOf du dv nu nv f) rest
 
 abbrev pub knots : Counts → ℕ
 knots n = n .controls + n .degree + 1

@@ -9,8 +9,9 @@ use lib.Ieee.{Float, binary64, ofBits}
 use Rattle.words.specs.Words.{littleEndian}
 use Rattle.vector3.specs.declared.Vector3.{Vector3}
 use Rattle.surface.specs.declared.Shape.{Shape}
+use Rattle.surface.specs.Flags.{shapeOf}
 use Rattle.surface.specs.Surface.{Surface, surface}
-use Rattle.job_format.specs.Format.{Read, malformed, read, _then_, Terms, Job, shaped, knots, controls, surfaceNumbers, termsRecord, toTheEnd}
+use Rattle.job_format.specs.Format.{Read, malformed, read, _then_, Terms, Job, knots, controls, surfaceNumbers, termsRecord, toTheEnd}
 use Rattle.job_format.specs.declared.Layout.{Layout}
 use Rattle.job_format.specs.declared.Layout.the-variants.{Malformed, WellFormed}
 
@@ -25,7 +26,7 @@ floatsAt zero bytes at = []
 floatsAt (suc n) bytes at = floatAt bytes at ∷ floatsAt n bytes (at + 8)
 
 unfoldable pub shapeAt : List ℕ → Shape
-shapeAt bytes = shaped (getD bytes 2 0) (getD bytes 3 0) (littleEndian 2 bytes 4) (littleEndian 2 bytes 6) (getD bytes 8 0)
+shapeAt bytes = shapeOf (getD bytes 2 0) (getD bytes 3 0) (littleEndian 2 bytes 4) (littleEndian 2 bytes 6) (getD bytes 8 0)
 
 -- how many numbers a surface has, and where they end
 abbrev pub count : Shape → ℕ

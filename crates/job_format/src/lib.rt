@@ -1,6 +1,7 @@
 // The job file: where its records stand, and its numbers as floats.
 use surface::Counts;
 use surface::Shape;
+use surface::shape_of;
 use vector3::Vector3;
 use words::pair_at;
 use words::wide;
@@ -35,7 +36,7 @@ pub fn layout_of(bytes: &[u8]) -> Layout
     if 3 < bytes[8] {
         return Layout::Malformed;
     }
-    after_header(bytes, shape_of(bytes))
+    after_header(bytes, header_shape(bytes))
 }
 
 // The floats from index `at` on, into the front of the numbers.
@@ -117,23 +118,17 @@ fn after_header(bytes: &[u8], shape: Shape) -> Layout
     Layout::WellFormed(shape, marks)
 }
 
-fn shape_of(bytes: &[u8]) -> Shape
+fn header_shape(bytes: &[u8]) -> Shape
     requires { ⌜ 9 ≤ length (now bytes) ⌝ }
     ensures { λ r. ⌜ (r ≡ shapeAt (now (bytes .entry))) × Small r ⌝ }
 {
-    let flags = bytes[8];
-    Shape {
-        u: Counts {
-            degree: wide(bytes[2]) as usize,
-            controls: pair_at(bytes, 4) as usize,
-            periodic: flags % 2 == 1,
-        },
-        v: Counts {
-            degree: wide(bytes[3]) as usize,
-            controls: pair_at(bytes, 6) as usize,
-            periodic: 1 < flags,
-        },
-    }
+    shape_of(
+        wide(bytes[2]) as usize,
+        wide(bytes[3]) as usize,
+        pair_at(bytes, 4) as usize,
+        pair_at(bytes, 6) as usize,
+        wide(bytes[8]),
+    )
 }
 
 // Whether `marks` records of a mark follow each other from index `at` on.

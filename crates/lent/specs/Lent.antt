@@ -1,12 +1,11 @@
 -- How a caller's numbers are read, whether they fit, and how an answer is laid out in what the caller lends. Definitions only.
-use Prim.Native.Nat.{ℕ, _+_, _%_}
+use Prim.Native.Nat.{ℕ, _+_}
 use mathlib.Core.Bool.{Bool, _&&_, _||_}
 use mathlib.Core.List.{List, [], _∷_, _++_}
-use lib.Dec.{leb, ltb, eqb}
+use lib.Dec.{leb, eqb}
 use lib.ListN.{length, take, drop, getD}
 use lib.Ieee.{Float}
 use Rattle.patch.specs.declared.Jet.{Jet}
-use Rattle.surface.specs.declared.Shape.{Shape}
 use Rattle.surface.specs.declared.Evaluation.{Evaluation}
 use Rattle.surface.specs.declared.Evaluation.the-variants as Evaluation
 use Rattle.inversion.specs.declared.Hint.{Hint}
@@ -22,10 +21,6 @@ use Rattle.edges.specs.declared.Edges.{Edges}
 use Rattle.edges.specs.declared.Edges.the-variants as Edges
 
 -- ---- what is read
-
--- flags: 1 where u is periodic, and 2 more where v is
-unfoldable pub shapeOf : (du dv nu nv flags : ℕ) → Shape
-shapeOf du dv nu nv flags = record { u = record { degree = du; controls = nu; periodic = eqb (flags % 2) 1 }; v = record { degree = dv; controls = nv; periodic = ltb 1 flags } }
 
 -- two numbers are a hint, none are none
 unfoldable pub hintOf : List Float → Hint

@@ -2,27 +2,8 @@
 use chart::Period;
 use inversion::Hint;
 use job::MOST_PRINTED;
-use surface::Counts;
-use surface::Shape;
 ghost use mathlib.Core.Path.{_≡_};
-ghost use Rattle.lent.specs.Lent.{shapeOf, hintOf, periodOf, soundFlags, soundOptions, roomy, roomyRow, roomyEdges, fitsJet, fitsInversion, fitsRow, fitsDerivative, fitsEdges, fitsJob};
-
-pub fn shape_of(du: usize, dv: usize, nu: usize, nv: usize, flags: u64) -> Shape
-    ensures { λ r. ⌜ r ≡ shapeOf du dv nu nv flags ⌝ }
-{
-    Shape {
-        u: Counts {
-            degree: du,
-            controls: nu,
-            periodic: flags % 2 == 1,
-        },
-        v: Counts {
-            degree: dv,
-            controls: nv,
-            periodic: flags > 1,
-        },
-    }
-}
+ghost use Rattle.lent.specs.Lent.{hintOf, periodOf, soundFlags, soundOptions, roomy, roomyRow, roomyEdges, fitsJet, fitsInversion, fitsRow, fitsDerivative, fitsEdges, fitsJob};
 
 pub fn hint_of(hint: &[f64]) -> Hint
     ensures { λ r. ⌜ r ≡ hintOf (now (hint .entry)) ⌝ }

@@ -15,6 +15,5 @@ pub use arguments::fits_row;
 pub use arguments::hint_of;
 pub use arguments::period_of;
 pub use arguments::roomy;
-pub use arguments::shape_of;
 pub use ends::lay_edges;
 pub use ends::lay_ended;

@@ -21,13 +21,13 @@ use lent::lay_placing;
 use lent::lay_printout;
 use lent::period_of;
 use lent::roomy;
-use lent::shape_of;
 use row::row;
 use surface::evaluate;
+use surface::shape_of;
 use vector3::Vector3;
 ghost use mathlib.Core.Path.{_≡_};
+ghost use Rattle.surface.specs.Flags.{shapeOf};
 ghost use Rattle.surface.specs.Surface.{surface};
-ghost use Rattle.lent.specs.Lent.{shapeOf};
 ghost use Rattle.placing.specs.Boundary.{vector, evaluates, inverts, rows, derives, tells, locates, prints};
 
 // Answered, before any other check and with nothing written, where flags are above 3, a hint or a period has another count of numbers, or a slice is too short for what is to be written. No document gives this number a meaning of its own.

@@ -1,5 +1,6 @@
 pub mod Surface
 pub mod Compute
+pub mod Flags
 pub mod SurfaceLaws
 pub mod Lent
 pub mod Net

@@ -1,11 +1,13 @@
 // A NURBS surface: a record of counts and flags by value, beside the knots, controls and weights that a caller lends.
 // Control (i, j) stands at i * v.controls + j, three coordinates each.
 mod checks;
+mod flags;
 mod jets;
 mod periodic;
 mod sums;
 
 pub use checks::check;
+pub use flags::shape_of;
 pub use jets::evaluate;
 pub use jets::surface_jet;
 use patch::Jet;

@@ -1,8 +1,8 @@
 // The part of a record that says which surface is lent.
 use replay::Cursor;
 use replay::Part;
-use surface::Counts;
 use surface::Shape;
+use surface::shape_of;
 ghost use lib.ListN.{length};
 ghost use Rattle.replay.specs.Cursors.{Within};
 
@@ -39,17 +39,13 @@ pub fn lent_surface(c: Cursor, words: &[u64]) -> Lent
     let controls = c.numbers(words);
     let c = controls.next;
     let weights = c.numbers(words);
-    let u = Counts {
-        degree: du.value as usize,
-        controls: nu.value as usize,
-        periodic: flags.value % 2 == 1,
-    };
-    let v = Counts {
-        degree: dv.value as usize,
-        controls: nv.value as usize,
-        periodic: flags.value / 2 % 2 == 1,
-    };
-    let shape = Shape { u, v };
+    let shape = shape_of(
+        du.value as usize,
+        dv.value as usize,
+        nu.value as usize,
+        nv.value as usize,
+        flags.value,
+    );
     Lent {
         shape,
         ku,

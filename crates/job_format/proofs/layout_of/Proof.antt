@@ -39,8 +39,8 @@ returns-4 c =
     let s = m .before .before in
     (wrong-flags (s .before .before .args .bytes .now) (s .if1 .left) (m .before .if2 .left) (sym (m .is-mark .ensures) ∙ not-false _ (t .if3 .left)) (c .if4 .taken), tt)
 
-shape-of-requires : tie.Need-shape-of-requires
-shape-of-requires c κs = search needs
+header-shape-requires : tie.Need-header-shape-requires
+header-shape-requires c κs = search needs
 
 after-header-requires : tie.Need-after-header-requires
 after-header-requires c κs = search needs
@@ -53,7 +53,7 @@ returns-5 c =
     let s = m .before .before in
     let bytes = s .before .before .args .bytes .now in (
       on-from-header bytes (s .if1 .left) (m .before .if2 .left) (sym (m .is-mark .ensures) ∙ not-false _ (t .if3 .left)) (f .if4 .left)
-          ∙ ap (λ (shape : Shape). fromNumbers shape (drop 9 bytes)) (sym (c .before .shape-of .ensures .0)) ∙ c .after-header .ensures .0,
+          ∙ ap (λ (shape : Shape). fromNumbers shape (drop 9 bytes)) (sym (c .before .header-shape .ensures .0)) ∙ c .after-header .ensures .0,
       c .after-header .ensures .1,
     )
 
@@ -67,6 +67,6 @@ layout-of-spec =
     returns-3
     shared-slice-read-if4
     returns-4
-    shape-of-requires
+    header-shape-requires
     after-header-requires
     returns-5)

@@ -1,0 +1,9 @@
+-- A shape by two degrees, two counts of controls and flags. Definitions only.
+use Prim.Native.Nat.{ℕ, _/_, _%_}
+use lib.Dec.{eqb}
+use Rattle.surface.specs.declared.Shape.{Shape}
+
+-- a flag is a binary digit: the lowest for u periodic, the next for v
+unfoldable pub shapeOf : (du dv nu nv flags : ℕ) → Shape
+shapeOf du dv nu nv flags =
+    record { u = record { degree = du; controls = nu; periodic = eqb (flags % 2) 1 }; v = record { degree = dv; controls = nv; periodic = eqb (flags / 2 % 2) 1 } }
