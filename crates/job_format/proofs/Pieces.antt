@@ -1,21 +1,24 @@
--- A piece that is read takes a fixed number of bytes, so bytes too few are malformed; and what each reads at an index. Assumes nothing.
+-- A piece that is read takes a fixed number of bytes, so bytes too few are malformed; and what each test of the code says of a piece. Assumes nothing.
 use mathlib.Core.Path.{_≡_, refl, ap, _∙_}
 use mathlib.Core.Bool.{Bool, true, false, cond, _&&_}
 use mathlib.Core.List.{List, [], _∷_}
-use Prim.Native.Nat.{ℕ, zero, suc, _+_, _-_, _*_, _/_, _%_, _≤_, _<_}
-use native.Mathlib.Nat.{add-zero, zero-add, mod-lt}
+use Prim.Native.Nat.{ℕ, zero, suc, _+_, _*_, _/_, _%_, _≤_, _<_}
+use native.Mathlib.Nat.{add-zero}
 use native.Mathlib.Numerals.{add-one}
 use native.Mathlib.Omega.{arith}
 use lib.Dec.{leb, eqb}
-use lib.ListN.{length, drop, getD, length-drop, drop-of-length-le}
-use lib.Seq.{drop-cons, drop-drop, getD-drop}
+use lib.ListN.{length, drop, getD, length-drop}
+use lib.Seq.{drop-cons}
 use lib.Ieee.{binary64, ofBits}
-use borrow.Author.Tests.{leb-true, le-leb}
+use borrow.Author.Tests.{leb-true, le-leb, lt-leb}
 use Rattle.words.specs.Words.{littleEndian}
 use Rattle.digits.specs.Text.{ascii}
+use Rattle.vector3.specs.declared.Vector3.{Vector3}
 use Rattle.surface.specs.declared.Shape.{Shape}
-use Rattle.job_format.specs.Format.{Read, malformed, read, _then_, mark, number, float, floats, flags, header, knots, controls, surfaceNumbers, termsRecord, markRecord, markRecords, ended, toTheEnd}
-use Rattle.job_format.specs.Offsets.{isMark, floatAt, floatsAt, shapeAt, count, after, surfaceAt, termsAt, markAt, allMarks, marksAt}
+use Rattle.surface.specs.Flags.{shapeOf}
+use Rattle.job_format.specs.Format.{Read, malformed, read, _then_, mark, number, float, floats, flags, counts, header, knots, controls, surfaceNumbers, terms, termsRecord, point, markRecord, markRecords, ended, toTheEnd}
+use Rattle.job_format.specs.Offsets.{count}
+use Rattle.job_format.specs.OffsetLaws.{number-at}
 
 -- ---- how many bytes a piece takes
 
@@ -93,7 +96,7 @@ takes-flags =
     (λ f. takes-cond 0 (λ rest. leb f 3) (λ rest. read f rest) (takes-read f))
 
 pub takes-header : Takes 9 header
-unfolding header ascii
+unfolding header counts ascii
 takes-header =
     takes-then 2 7 _ _ (takes-mark (ascii "SF")) (λ m.
     takes-then 1 6 _ _ (takes-number 1) (λ du.
@@ -115,56 +118,46 @@ takes-numbers shape =
     takes-then (8 * n) 0 _ _ (takes-floats n) (λ ws. takes-read _)))))
 
 pub takes-terms : Takes 18 termsRecord
-unfolding termsRecord ascii
+unfolding termsRecord terms ascii
 takes-terms =
     takes-then 2 16 _ _ (takes-mark (ascii "TL")) (λ m.
     takes-then 8 8 _ _ takes-float (λ x.
     takes-then 8 0 _ _ (takes-number 8) (λ n. takes-read _)))
 
--- ---- what a piece reads at an index
+takes-record : Takes 26 markRecord
+unfolding markRecord point ascii
+takes-record =
+    takes-then 2 24 _ _ (takes-mark (ascii "MK")) (λ m.
+    takes-then 8 16 _ _ takes-float (λ x.
+    takes-then 8 8 _ _ takes-float (λ y.
+    takes-then 8 0 _ _ takes-float (λ z. takes-read _))))
+
+takes-records : (n : ℕ) → Takes (26 * n) (markRecords n)
+unfolding markRecords
+takes-records zero = takes-read []
+takes-records (suc n) =
+    takes-as (26 + (26 * n + 0)) (26 * suc n) _ (omega arith)
+    (takes-then 26 (26 * n + 0) _ _ takes-record (λ p. takes-then (26 * n) 0 _ _ (takes-records n) (λ ps. takes-read (p ∷ ps))))
+
+pub left-over : (bytes : List ℕ) → (length bytes % 26 ≡ 0 → ⊥) → toTheEnd bytes ≡ malformed
+unfolding toTheEnd ended _then_
+left-over bytes z = by (markRecords (length bytes / 26) bytes) refl
+  where
+    by : (r : Read (List Vector3)) → markRecords (length bytes / 26) bytes ≡ r → (r then ended) ≡ malformed
+    by malformed e = refl
+    by (read ps []) e = absurd (z (omega (arith, takes-records (length bytes / 26) bytes ps [] e)))
+    by (read ps (b ∷ rest)) e = refl
+
+-- ---- what a test of bytes at an index says of the piece there
 
 both : {A : Type 0} (x y : Bool) (r : Read A) → cond x (cond y r malformed) malformed ≡ cond (x && y) r malformed
 both true y r = refl
 both false y r = refl
 
--- a test before what follows
-unless : {A B : Type 0} (t : Bool) (r : Read A) (f : A → List ℕ → Read B) → (cond t r malformed then f) ≡ cond t (r then f) malformed
-unfolding _then_
-unless true r f = refl
-unless false r f = refl
-
 module _ (bytes : List ℕ) where
-  le-drop : (k at : ℕ) → littleEndian k (drop at bytes) 0 ≡ littleEndian k bytes at
-  unfolding littleEndian
-  le-drop zero at = refl
-  le-drop (suc k) at =
-      let g : getD (drop at bytes) (0 + k) 0 ≡ getD bytes (at + k) 0 = getD-drop at bytes (0 + k) 0 ∙ simp zero-add in
-      simp (le-drop k at, g)
-
-  -- one byte
-  pub le-one : (at : ℕ) → littleEndian 1 bytes at ≡ getD bytes at 0
-  unfolding littleEndian
-  le-one at = simp add-zero (omega arith)
-
-  number-at : (k at : ℕ) → at + k ≤ length bytes → number k (drop at bytes) ≡ read (littleEndian k bytes at) (drop (at + k) bytes)
-  unfolding number
-  number-at k at h =
-      let l : leb k (length (drop at bytes)) ≡ true = le-leb k (length (drop at bytes)) (omega (arith, length-drop at bytes)) in
-      simp (l, le-drop k at, drop-drop)
-
-  float-at : (at : ℕ) → at + 8 ≤ length bytes → float (drop at bytes) ≡ read (floatAt bytes at) (drop (at + 8) bytes)
-  unfolding float floatAt _then_
-  float-at at h = simp (number-at 8 at h)
-
-  floats-at : (n at : ℕ) → at + 8 * n ≤ length bytes → floats n (drop at bytes) ≡ read (floatsAt n bytes at) (drop (at + 8 * n) bytes)
-  unfolding floats floatsAt _then_
-  floats-at zero at h = simp add-zero
-  floats-at (suc n) at h =
-      let e : at + 8 + 8 * n ≡ at + 8 * suc n = omega arith in
-      simp (float-at at (omega arith), floats-at n (at + 8) (omega arith), e)
-
-  mark-at : (a b at : ℕ) → at + 2 ≤ length bytes → mark (a ∷ b ∷ []) (drop at bytes) ≡ cond (isMark a b bytes at) (read tt (drop (at + 2) bytes)) malformed
-  unfolding mark isMark
+  pub mark-at : (a b at : ℕ) → at + 2 ≤ length bytes
+      → mark (a ∷ b ∷ []) (drop at bytes) ≡ cond (eqb (getD bytes at 0) a && eqb (getD bytes (at + 1) 0) b) (read tt (drop (at + 2) bytes)) malformed
+  unfolding mark
   mark-at a b at h =
       let d : drop at bytes ≡ getD bytes at 0 ∷ drop (at + 1) bytes = rw add-one (drop-cons bytes at 0 (omega arith)) in
       let e : suc (at + 1) ≡ at + 2 = omega arith in
@@ -172,65 +165,19 @@ module _ (bytes : List ℕ) where
       drop-cons bytes (at + 1) 0 (omega arith) ∙ ap (λ (k : ℕ). getD bytes (at + 1) 0 ∷ drop k bytes) e in
       rw (d, f) (both (eqb (getD bytes at 0) a) (eqb (getD bytes (at + 1) 0) b) (read tt (drop (at + 2) bytes)))
 
-  pub header-at : 9 ≤ length bytes → header bytes ≡ cond (isMark 83 70 bytes 0) (cond (leb (getD bytes 8 0) 3) (read (shapeAt bytes) (drop 9 bytes)) malformed) malformed
-  unfolding header ascii flags shapeAt _then_
-  header-at h =
-      rw (mark-at 83 70 0 (omega arith), unless)
-      (simp (number-at 1 2 (omega arith), number-at 1 3 (omega arith), number-at 2 4 (omega arith), number-at 2 6 (omega arith), number-at 1 8 (omega arith), le-one, unless))
+  one-byte : (at : ℕ) → littleEndian 1 bytes at ≡ getD bytes at 0
+  unfolding littleEndian
+  one-byte at = simp add-zero (omega arith)
 
-  pub numbers-at : (shape : Shape) → after shape ≤ length bytes → surfaceNumbers shape (drop 9 bytes) ≡ read (surfaceAt shape bytes) (drop (after shape) bytes)
-  unfolding surfaceNumbers surfaceAt _then_
-  numbers-at shape h =
-      let u = knots (shape .u) in
-      let v = knots (shape .v) in
-      let n = controls shape in
-      let e : 9 + 8 * u + 8 * v + 8 * (3 * n) + 8 * n ≡ after shape = omega arith in
-      simp (floats-at u 9 (omega arith), floats-at v (9 + 8 * u) (omega arith), floats-at (3 * n) (9 + 8 * u + 8 * v) (omega arith), floats-at n (9 + 8 * u + 8 * v + 8 * (3 * n)) (omega arith), e)
+  module _ (h : 9 ≤ length bytes) where
+    up-to-flags : (t : Bool) → leb (getD bytes 8 0) 3 ≡ t
+        → counts (drop 2 bytes) ≡ cond t (read (shapeOf (getD bytes 2 0) (getD bytes 3 0) (littleEndian 2 bytes 4) (littleEndian 2 bytes 6) (getD bytes 8 0)) (drop 9 bytes)) malformed
+    unfolding counts flags _then_
+    up-to-flags true e = simp (number-at bytes 1 2 (omega arith), number-at bytes 1 3 (omega arith), number-at bytes 2 4 (omega arith), number-at bytes 2 6 (omega arith), number-at bytes 1 8 (omega arith), one-byte, e)
+    up-to-flags false e = simp (number-at bytes 1 2 (omega arith), number-at bytes 1 3 (omega arith), number-at bytes 2 4 (omega arith), number-at bytes 2 6 (omega arith), number-at bytes 1 8 (omega arith), one-byte, e)
 
-  pub terms-at : (at : ℕ) → at + 18 ≤ length bytes → termsRecord (drop at bytes) ≡ cond (isMark 84 76 bytes at) (read (termsAt bytes at) (drop (at + 18) bytes)) malformed
-  unfolding termsRecord ascii termsAt _then_
-  terms-at at h =
-      let e : at + 2 + 8 ≡ at + 10 = omega arith in
-      let f : at + 10 + 8 ≡ at + 18 = omega arith in
-      rw (mark-at 84 76 at (omega arith), unless) (simp (float-at (at + 2) (omega arith), e, number-at 8 (at + 10) (omega arith), f))
+    pub counts-at : getD bytes 8 0 ≤ 3 → counts (drop 2 bytes) ≡ read (shapeOf (getD bytes 2 0) (getD bytes 3 0) (littleEndian 2 bytes 4) (littleEndian 2 bytes 6) (getD bytes 8 0)) (drop 9 bytes)
+    counts-at f = up-to-flags true (le-leb (getD bytes 8 0) 3 f)
 
-  mark-record-at : (at : ℕ) → at + 26 ≤ length bytes → markRecord (drop at bytes) ≡ cond (isMark 77 75 bytes at) (read (markAt bytes at) (drop (at + 26) bytes)) malformed
-  unfolding markRecord ascii markAt _then_
-  mark-record-at at h =
-      let e : at + 2 + 8 ≡ at + 10 = omega arith in
-      let f : at + 10 + 8 ≡ at + 18 = omega arith in
-      let g : at + 18 + 8 ≡ at + 26 = omega arith in
-      rw (mark-at 77 75 at (omega arith), unless) (simp (float-at (at + 2) (omega arith), e, float-at (at + 10) (omega arith), f, float-at (at + 18) (omega arith), g))
-
-  mark-records-at : (n at : ℕ) → at + 26 * n ≤ length bytes → markRecords n (drop at bytes) ≡ cond (allMarks n bytes at) (read (marksAt n bytes at) (drop (at + 26 * n) bytes)) malformed
-  unfolding markRecords allMarks marksAt _then_
-  mark-records-at zero at h = simp add-zero
-  mark-records-at (suc n) at h =
-      let e : at + 26 + 26 * n ≡ at + 26 * suc n = omega arith in
-      rw (mark-record-at at (omega arith), unless) (simp (mark-records-at n (at + 26) (omega arith), e, unless, both))
-
-  module _ (at : ℕ) (h : at ≤ length bytes) where
-    abbrev left : ℕ
-    left = length bytes - at
-
-    room : length (drop at bytes) / 26 ≡ left / 26
-    room = ap (λ (k : ℕ). k / 26) (length-drop at bytes)
-
-    read-all : toTheEnd (drop at bytes) ≡ cond (allMarks (left / 26) bytes at) (ended (marksAt (left / 26) bytes at) (drop (at + 26 * (left / 26)) bytes)) malformed
-    unfolding toTheEnd _then_
-    read-all = rw (room, mark-records-at (left / 26) at (omega arith), unless)
-
-    pub end-at : left % 26 ≡ 0 → toTheEnd (drop at bytes) ≡ cond (allMarks (left / 26) bytes at) (read (marksAt (left / 26) bytes at) []) malformed
-    unfolding ended
-    end-at z =
-        let e : drop (at + 26 * (left / 26)) bytes ≡ [] = drop-of-length-le bytes {i = at + 26 * (left / 26)} (omega arith) in
-        rw (read-all, e)
-
-    pub left-over : (left % 26 ≡ 0 → ⊥) → toTheEnd (drop at bytes) ≡ malformed
-    unfolding ended
-    left-over z = read-all ∙ by (allMarks (left / 26) bytes at) (drop (at + 26 * (left / 26)) bytes) (omega (arith, length-drop (at + 26 * (left / 26)) bytes, mod-lt left {m = 26} (omega arith)))
-      where
-        by : (t : Bool) (rest : List ℕ) → 0 < length rest → cond t (ended (marksAt (left / 26) bytes at) rest) malformed ≡ malformed
-        by true [] p = absurd (omega arith)
-        by true (b ∷ rest) p = refl
-        by false rest p = refl
+    pub other-flags : 3 < getD bytes 8 0 → counts (drop 2 bytes) ≡ malformed
+    other-flags f = up-to-flags false (lt-leb (getD bytes 8 0) 3 f)

@@ -1,21 +1,22 @@
 -- The steps of the loops, and what each test of a file says of it, over plain values. Assumes nothing.
 use mathlib.Core.Path.{_≡_, refl, sym, ap, _∙_}
-use mathlib.Core.Bool.{Bool, true, false, cond, _&&_}
+use mathlib.Core.Bool.{Bool, true, false, cond}
 use mathlib.Core.List.{List, [], _∷_, _++_, append-assoc}
 use Prim.Native.Nat.{ℕ, suc, _+_, _-_, _*_, _/_, _%_, _^_, _≤_, _<_}
 use native.Mathlib.Nat.{add-zero, sub-zero, mul-le-mul-left}
 use native.Mathlib.Numerals.{add-one}
 use native.Mathlib.Omega.{arith}
-use lib.ListN.{length, drop, getD, set, length-drop}
+use lib.ListN.{length, drop, getD, set, length-drop, drop-of-length-le}
 use lib.Seq.{drop-cons, set-at}
 use lib.Ieee.{Float, nan}
-use borrow.Author.Tests.{lt-leb, le-leb}
+use borrow.Author.Tests.{le-leb}
+use Rattle.digits.specs.Text.{ascii}
 use Rattle.surface.specs.declared.Shape.{Shape}
 use Rattle.surface.specs.Flags.{shapeOf}
-use Rattle.job_format.specs.Format.{Read, malformed, read, _then_, header, surfaceNumbers, surfaceRecord, termsRecord, toTheEnd, records, parse}
-use Rattle.job_format.specs.Offsets.{Small, isMark, floatAt, floatsAt, shapeAt, count, after, surfaceAt, termsAt, allMarks, marksAt, jobAt, fromNumbers}
-use Rattle.job_format.specs.OffsetLaws.{floats-length, floats-split}
-use Rattle.job_format.proofs.Pieces.{Takes, short, takes-header, takes-numbers, takes-terms, header-at, numbers-at, terms-at, end-at, left-over}
+use Rattle.job_format.specs.Format.{Read, malformed, read, _then_, mark, counts, header, surfaceNumbers, termsRecord, markRecord, markRecords, ended, toTheEnd, afterHeader, parse}
+use Rattle.job_format.specs.Offsets.{Small, floatAt, floatsAt, count, after, surfaceAt, termsAt, marksAt, jobAt}
+use Rattle.job_format.specs.OffsetLaws.{floats-length, floats-split, numbers-at, terms-at, point-at}
+use Rattle.job_format.proofs.Pieces.{Takes, short, takes-header, takes-numbers, takes-terms, left-over, other-flags}
 
 -- ---- numbers
 
@@ -32,23 +33,50 @@ module _ (bytes : List ℕ) (at i : ℕ) (numbers₀ numbers : List Float) (e : 
 
 -- ---- marks
 
-module _ (bytes : List ℕ) (at : ℕ) where
-  pub marks-begin : (n : ℕ) → allMarks n bytes at ≡ allMarks (n - 0) bytes (at + 26 * 0)
-  marks-begin n = simp (sub-zero, add-zero)
+module _ (bytes : List ℕ) where
+  -- what a test of n records from index `at` on says of them
+  abbrev pub MarksRead : ℕ → ℕ → Bool → Type 0
+  MarksRead n at t = markRecords n (drop at bytes) ≡ cond t (read (marksAt n bytes at) (drop (at + 26 * n) bytes)) malformed
 
-  module _ (n i : ℕ) (whole : Bool) (e : whole ≡ allMarks (n - i) bytes (at + 26 * i)) where
-    pub marks-go : i < n → whole ≡ (isMark 77 75 bytes (at + 26 * i) && allMarks (n - (i + 1)) bytes (at + 26 * (i + 1)))
-    unfolding allMarks
-    marks-go h =
-        let k : n - i ≡ suc (n - (i + 1)) = omega arith in
-        let f : at + 26 * i + 26 ≡ at + 26 * (i + 1) = omega arith in
-        e ∙ ap (λ (j : ℕ). allMarks j bytes (at + 26 * i)) k ∙ simp f
+  -- and of one record's mark
+  abbrev pub MarkRead : ℕ → ℕ → ℕ → Bool → Type 0
+  MarkRead a b at t = mark (a ∷ b ∷ []) (drop at bytes) ≡ cond t (read tt (drop (at + 2) bytes)) malformed
 
-    pub marks-over : n ≤ i → true ≡ whole
-    unfolding allMarks
-    marks-over h =
-        let k : n - i ≡ 0 = omega arith in
-        sym (e ∙ ap (λ (j : ℕ). allMarks j bytes (at + 26 * i)) k)
+  no-marks : (at : ℕ) → MarksRead 0 at true
+  unfolding markRecords marksAt
+  no-marks at = simp add-zero
+
+  module _ (n at : ℕ) (h : at + 26 ≤ length bytes) (t : Bool) (m : MarkRead 77 75 at t) where
+    first-fails : t ≡ false → MarksRead (suc n) at false
+    unfolding markRecords markRecord ascii _then_
+    first-fails f = simp (m, f)
+
+    first-holds : t ≡ true → (r : Bool) → MarksRead n (at + 26) r → MarksRead (suc n) at r
+    unfolding markRecords markRecord marksAt ascii _then_
+    first-holds f true e =
+        let k : at + 26 + 26 * n ≡ at + 26 * suc n = omega arith in
+        simp (m, f, point-at bytes at h, e, k)
+    first-holds f false e = simp (m, f, point-at bytes at h, e)
+
+  module _ (at n : ℕ) where
+    pub marks-begin : (r : Bool) → MarksRead (n - 0) (at + 26 * 0) r → MarksRead n at r
+    marks-begin r e = simp (sub-zero, add-zero) at e
+
+    module _ (i : ℕ) where
+      pub marks-over : n ≤ i → MarksRead (n - i) (at + 26 * i) true
+      marks-over h = let k : n - i ≡ 0 = omega arith in rw k (no-marks (at + 26 * i))
+
+      module _ (h : i < n) (inside : at + 26 * n ≤ length bytes) (t : Bool) (m : MarkRead 77 75 (at + 26 * i) t) where
+        k : n - i ≡ suc (n - (i + 1))
+        k = omega arith
+
+        pub marks-stop : t ≡ false → MarksRead (n - i) (at + 26 * i) false
+        marks-stop f = rw k (first-fails (n - (i + 1)) (at + 26 * i) (omega arith) t m f)
+
+        pub marks-go : t ≡ true → (r : Bool) → MarksRead (n - (i + 1)) (at + 26 * (i + 1)) r → MarksRead (n - i) (at + 26 * i) r
+        marks-go f r e =
+            let next : at + 26 * (i + 1) ≡ at + 26 * i + 26 = omega arith in
+            rw k (first-holds (n - (i + 1)) (at + 26 * i) (omega arith) t m f r (rw next at e))
 
 -- ---- counts
 
@@ -76,66 +104,66 @@ unfolding _then_
 when-none p f e = simp e
 
 module _ (bytes : List ℕ) (shape : Shape) (at : ℕ) (e : at ≡ after shape) (least : 9 ≤ length bytes) where
-  pub cut-off : length bytes < at + 18 → fromNumbers shape (drop 9 bytes) ≡ malformed
-  unfolding fromNumbers
+  pub cut-off : length bytes < at + 18 → afterHeader shape (drop 9 bytes) ≡ malformed
+  unfolding afterHeader
   cut-off h =
       short-second (8 * count shape) 18 (surfaceNumbers shape) (λ s. termsRecord)
       (λ s t rest. toTheEnd rest then λ ps rest. read (record { surface = s; terms = t; marks = ps }) rest)
       (takes-numbers shape) (λ s. takes-terms) (drop 9 bytes) (omega (arith, length-drop 9 bytes))
 
-  module _ (long : at + 18 ≤ length bytes) where
-    terms-found : fromNumbers shape (drop 9 bytes)
-        ≡ (cond (isMark 84 76 bytes at) (read (termsAt bytes at) (drop (at + 18) bytes)) malformed then λ t rest. toTheEnd rest then λ ps rest. read (record { surface = surfaceAt shape bytes; terms = t; marks = ps }) rest)
-    unfolding fromNumbers _then_
-    terms-found = rw (numbers-at bytes shape (omega arith), ← e, terms-at bytes at long)
+  module _ (long : at + 18 ≤ length bytes) (t : Bool) (m : MarkRead bytes 84 76 at t) where
+    pub no-terms : t ≡ false → afterHeader shape (drop 9 bytes) ≡ malformed
+    unfolding afterHeader termsRecord ascii _then_
+    no-terms f = rw (numbers-at bytes shape (omega arith), ← e, m, f)
 
-    pub no-terms : isMark 84 76 bytes at ≡ false → fromNumbers shape (drop 9 bytes) ≡ malformed
-    unfolding _then_
-    no-terms m = terms-found ∙ simp m
-
-    module _ (m : isMark 84 76 bytes at ≡ true) where
-      marks-found : fromNumbers shape (drop 9 bytes)
+    module _ (holds : t ≡ true) where
+      marks-found : afterHeader shape (drop 9 bytes)
           ≡ (toTheEnd (drop (at + 18) bytes) then λ ps rest. read (record { surface = surfaceAt shape bytes; terms = termsAt bytes at; marks = ps }) rest)
-      unfolding _then_
-      marks-found = terms-found ∙ simp m
+      unfolding afterHeader termsRecord ascii _then_
+      marks-found = rw (numbers-at bytes shape (omega arith), ← e, m, holds, terms-at bytes at long)
 
-      pub bytes-left : ((length bytes - (at + 18)) % 26 ≡ 0 → ⊥) → fromNumbers shape (drop 9 bytes) ≡ malformed
-      bytes-left z = marks-found ∙ when-none _ _ (left-over bytes (at + 18) long z)
+      abbrev left : ℕ
+      left = length bytes - (at + 18)
 
-      module _ (n : ℕ) (n-is : n ≡ (length bytes - (at + 18)) / 26) (z : (length bytes - (at + 18)) % 26 ≡ 0) where
-        end-found : toTheEnd (drop (at + 18) bytes) ≡ cond (allMarks n bytes (at + 18)) (read (marksAt n bytes (at + 18)) []) malformed
-        end-found = rw n-is (end-at bytes (at + 18) long z)
+      pub bytes-left : (left % 26 ≡ 0 → ⊥) → afterHeader shape (drop 9 bytes) ≡ malformed
+      bytes-left z = marks-found ∙ when-none _ _ (left-over (drop (at + 18) bytes) (rw (length-drop (at + 18) bytes) z))
 
-        pub no-mark : allMarks n bytes (at + 18) ≡ false → fromNumbers shape (drop 9 bytes) ≡ malformed
-        no-mark a = marks-found ∙ when-none _ _ (end-found ∙ simp a)
+      module _ (n : ℕ) (n-is : n ≡ left / 26) (z : left % 26 ≡ 0) (r : Bool) (p : MarksRead bytes n (at + 18) r) where
+        end-found : (b : Bool) → r ≡ b → toTheEnd (drop (at + 18) bytes) ≡ cond b (read (marksAt n bytes (at + 18)) []) malformed
+        unfolding toTheEnd ended _then_
+        end-found true q =
+            let d : drop (at + 18 + 26 * n) bytes ≡ [] = drop-of-length-le bytes {i = at + 18 + 26 * n} (omega arith) in
+            rw (length-drop (at + 18) bytes, ← n-is, p, q, d)
+        end-found false q = rw (length-drop (at + 18) bytes, ← n-is, p, q)
 
-        pub well-formed : allMarks n bytes (at + 18) ≡ true → fromNumbers shape (drop 9 bytes) ≡ read (jobAt shape n bytes) []
+        pub no-mark : r ≡ false → afterHeader shape (drop 9 bytes) ≡ malformed
+        no-mark a = marks-found ∙ when-none _ _ (end-found false a)
+
+        pub well-formed : r ≡ true → afterHeader shape (drop 9 bytes) ≡ read (jobAt shape n bytes) []
         unfolding jobAt _then_
-        well-formed a = marks-found ∙ rw (end-found, a, ← e)
+        well-formed a = marks-found ∙ rw (end-found true a, ← e)
 
 -- ---- the file
 
 module _ (bytes : List ℕ) where
   module _ (few : length bytes ≤ 32768) where
-    read-records : parse bytes ≡ records bytes
-    unfolding parse
-    read-records = simp (le-leb (length bytes) 32768 few)
-
     headless : header bytes ≡ malformed → parse bytes ≡ malformed
-    unfolding records surfaceRecord _then_
-    headless e = read-records ∙ simp e
+    unfolding parse _then_
+    headless e = simp (le-leb (length bytes) 32768 few, e)
 
     pub no-header : length bytes < 9 → parse bytes ≡ malformed
     no-header h = headless (short 9 header takes-header bytes h)
 
-    module _ (least : 9 ≤ length bytes) where
-      pub no-surface : isMark 83 70 bytes 0 ≡ false → parse bytes ≡ malformed
-      no-surface m = headless (header-at bytes least ∙ simp m)
+    module _ (least : 9 ≤ length bytes) (t : Bool) (m : MarkRead bytes 83 70 0 t) where
+      pub no-surface : t ≡ false → parse bytes ≡ malformed
+      unfolding header ascii _then_
+      no-surface f = headless (simp (m, f))
 
-      module _ (m : isMark 83 70 bytes 0 ≡ true) where
+      module _ (holds : t ≡ true) where
         pub wrong-flags : 3 < getD bytes 8 0 → parse bytes ≡ malformed
-        wrong-flags h = headless (header-at bytes least ∙ simp (m, lt-leb (getD bytes 8 0) 3 h))
+        unfolding header ascii _then_
+        wrong-flags h = headless (simp (m, holds, other-flags bytes least h))
 
-        pub on-from-header : getD bytes 8 0 ≤ 3 → parse bytes ≡ fromNumbers (shapeAt bytes) (drop 9 bytes)
-        unfolding records surfaceRecord fromNumbers _then_
-        on-from-header h = read-records ∙ rw (header-at bytes least, m, le-leb (getD bytes 8 0) 3 h)
+        pub past-header : (shape : Shape) → counts (drop 2 bytes) ≡ read shape (drop 9 bytes) → parse bytes ≡ afterHeader shape (drop 9 bytes)
+        unfolding parse header ascii _then_
+        past-header shape e = simp (le-leb (length bytes) 32768 few, m, holds, e)

@@ -49,16 +49,18 @@ flags bytes = number 1 bytes then λ f rest. cond (leb f 3) (read f rest) malfor
 
 -- ---- the records
 
--- what stands before the surface's numbers
-unfoldable pub header : List ℕ → Read Shape
-header bytes =
-    mark (ascii "SF") bytes then λ m rest.
-    number 1 rest then λ du rest.
+unfoldable pub counts : List ℕ → Read Shape
+counts bytes =
+    number 1 bytes then λ du rest.
     number 1 rest then λ dv rest.
     number 2 rest then λ nu rest.
     number 2 rest then λ nv rest.
     flags rest then λ f rest.
     read (shapeOf du dv nu nv f) rest
+
+-- what stands before the surface's numbers
+unfoldable pub header : List ℕ → Read Shape
+header bytes = mark (ascii "SF") bytes then λ m. counts
 
 abbrev pub knots : Counts → ℕ
 knots n = n .controls + n .degree + 1
@@ -75,27 +77,28 @@ surfaceNumbers shape bytes =
     floats (controls shape) rest then λ ws rest.
     read (surface shape ku kv cs ws) rest
 
-unfoldable pub surfaceRecord : List ℕ → Read Surface
-surfaceRecord bytes = header bytes then surfaceNumbers
-
 pub record Terms : Type 0 where
   pub tolerance : Float
   pub budget : ℕ
 
-unfoldable pub termsRecord : List ℕ → Read Terms
-termsRecord bytes =
-    mark (ascii "TL") bytes then λ m rest.
-    float rest then λ x rest.
+unfoldable pub terms : List ℕ → Read Terms
+terms bytes =
+    float bytes then λ x rest.
     number 8 rest then λ n rest.
     read (record { tolerance = x; budget = n }) rest
 
-unfoldable pub markRecord : List ℕ → Read Vector3
-markRecord bytes =
-    mark (ascii "MK") bytes then λ m rest.
-    float rest then λ x rest.
+unfoldable pub termsRecord : List ℕ → Read Terms
+termsRecord bytes = mark (ascii "TL") bytes then λ m. terms
+
+unfoldable pub point : List ℕ → Read Vector3
+point bytes =
+    float bytes then λ x rest.
     float rest then λ y rest.
     float rest then λ z rest.
     read (record { x = x; y = y; z = z }) rest
+
+unfoldable pub markRecord : List ℕ → Read Vector3
+markRecord bytes = mark (ascii "MK") bytes then λ m. point
 
 unfoldable pub markRecords : ℕ → List ℕ → Read (List Vector3)
 markRecords zero bytes = read [] bytes
@@ -117,12 +120,12 @@ ended a (b ∷ bytes) = malformed
 unfoldable pub toTheEnd : List ℕ → Read (List Vector3)
 toTheEnd bytes = markRecords (length bytes / 26) bytes then ended
 
-unfoldable pub records : List ℕ → Read Job
-records bytes =
-    surfaceRecord bytes then λ s rest.
+unfoldable pub afterHeader : Shape → List ℕ → Read Job
+afterHeader shape bytes =
+    surfaceNumbers shape bytes then λ s rest.
     termsRecord rest then λ t rest.
     toTheEnd rest then λ ps rest.
     read (record { surface = s; terms = t; marks = ps }) rest
 
 unfoldable pub parse : List ℕ → Read Job
-parse bytes = cond (leb (length bytes) 32768) (records bytes) malformed
+parse bytes = cond (leb (length bytes) 32768) (header bytes then afterHeader) malformed

@@ -1,14 +1,73 @@
--- Floats that follow each other in a file. Assumes nothing.
+-- Each piece, read at its place, is what `Offsets.antt` names there, and ends where the next begins. Assumes nothing.
 use mathlib.Core.Path.{_≡_, refl, ap, _∙_}
+use mathlib.Core.Bool.{true}
 use mathlib.Core.List.{List, _∷_, _++_}
-use Prim.Native.Nat.{ℕ, zero, suc, _+_, _*_}
+use Prim.Native.Nat.{ℕ, zero, suc, _+_, _*_, _≤_}
 use native.Mathlib.Nat.{add-zero, zero-add}
 use native.Mathlib.Omega.{arith}
-use lib.ListN.{length}
+use lib.Dec.{leb}
+use lib.ListN.{length, drop, getD, length-drop}
+use lib.Seq.{drop-drop, getD-drop}
 use lib.Ieee.{Float}
-use Rattle.job_format.specs.Offsets.{floatAt, floatsAt}
+use borrow.Author.Tests.{le-leb}
+use Rattle.words.specs.Words.{littleEndian}
+use Rattle.surface.specs.declared.Shape.{Shape}
+use Rattle.job_format.specs.Format.{read, _then_, number, float, floats, knots, controls, surfaceNumbers, terms, point}
+use Rattle.job_format.specs.Offsets.{floatAt, floatsAt, after, surfaceAt, termsAt, markAt}
 
 module _ (bytes : List ℕ) where
+  from-front : (k at : ℕ) → littleEndian k (drop at bytes) 0 ≡ littleEndian k bytes at
+  unfolding littleEndian
+  from-front zero at = refl
+  from-front (suc k) at =
+      let g : getD (drop at bytes) (0 + k) 0 ≡ getD bytes (at + k) 0 = getD-drop at bytes (0 + k) 0 ∙ simp zero-add in
+      simp (from-front k at, g)
+
+  pub number-at : (k at : ℕ) → at + k ≤ length bytes → number k (drop at bytes) ≡ read (littleEndian k bytes at) (drop (at + k) bytes)
+  unfolding number
+  number-at k at h =
+      let l : leb k (length (drop at bytes)) ≡ true = le-leb k (length (drop at bytes)) (omega (arith, length-drop at bytes)) in
+      simp (l, from-front k at, drop-drop)
+
+  pub float-at : (at : ℕ) → at + 8 ≤ length bytes → float (drop at bytes) ≡ read (floatAt bytes at) (drop (at + 8) bytes)
+  unfolding float floatAt _then_
+  float-at at h = simp (number-at 8 at h)
+
+  pub floats-at : (n at : ℕ) → at + 8 * n ≤ length bytes → floats n (drop at bytes) ≡ read (floatsAt n bytes at) (drop (at + 8 * n) bytes)
+  unfolding floats floatsAt _then_
+  floats-at zero at h = simp add-zero
+  floats-at (suc n) at h =
+      let e : at + 8 + 8 * n ≡ at + 8 * suc n = omega arith in
+      simp (float-at at (omega arith), floats-at n (at + 8) (omega arith), e)
+
+  pub numbers-at : (shape : Shape) → after shape ≤ length bytes → surfaceNumbers shape (drop 9 bytes) ≡ read (surfaceAt shape bytes) (drop (after shape) bytes)
+  unfolding surfaceNumbers surfaceAt _then_
+  numbers-at shape h =
+      let u = knots (shape .u) in
+      let v = knots (shape .v) in
+      let n = controls shape in
+      let e : 9 + 8 * u + 8 * v + 8 * (3 * n) + 8 * n ≡ after shape = omega arith in
+      simp (floats-at u 9 (omega arith), floats-at v (9 + 8 * u) (omega arith), floats-at (3 * n) (9 + 8 * u + 8 * v) (omega arith), floats-at n (9 + 8 * u + 8 * v + 8 * (3 * n)) (omega arith), e)
+
+  module _ (at : ℕ) where
+    e : at + 2 + 8 ≡ at + 10
+    e = omega arith
+
+    f : at + 10 + 8 ≡ at + 18
+    f = omega arith
+
+    pub terms-at : at + 18 ≤ length bytes → terms (drop (at + 2) bytes) ≡ read (termsAt bytes at) (drop (at + 18) bytes)
+    unfolding terms termsAt _then_
+    terms-at h = simp (float-at (at + 2) (omega arith), e, number-at 8 (at + 10) (omega arith), f)
+
+    pub point-at : at + 26 ≤ length bytes → point (drop (at + 2) bytes) ≡ read (markAt bytes at) (drop (at + 26) bytes)
+    unfolding point markAt _then_
+    point-at h =
+        let g : at + 18 + 8 ≡ at + 26 = omega arith in
+        simp (float-at (at + 2) (omega arith), e, float-at (at + 10) (omega arith), f, float-at (at + 18) (omega arith), g)
+
+  -- ---- floats that follow each other
+
   pub floats-length : (n at : ℕ) → length (floatsAt n bytes at) ≡ n
   unfolding floatsAt
   floats-length zero at = refl

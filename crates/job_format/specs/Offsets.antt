@@ -1,22 +1,15 @@
--- What a well-formed job file holds, and where. Definitions only.
+-- Where the pieces of a well-formed file stand, for contracts of code that reads by index. The format itself is `parse` of `Format.antt`, and `OffsetLaws.antt` proves that each piece read at its place is what is named here. Definitions only.
 use mathlib.Core.Path.{_≡_}
-use mathlib.Core.Bool.{Bool, true, _&&_}
 use mathlib.Core.List.{List, [], _∷_}
 use Prim.Native.Nat.{ℕ, zero, suc, _+_, _*_, _≤_, _<_}
-use lib.Dec.{eqb}
-use lib.ListN.{getD}
 use lib.Ieee.{Float, binary64, ofBits}
 use Rattle.words.specs.Words.{littleEndian}
 use Rattle.vector3.specs.declared.Vector3.{Vector3}
 use Rattle.surface.specs.declared.Shape.{Shape}
-use Rattle.surface.specs.Flags.{shapeOf}
 use Rattle.surface.specs.Surface.{Surface, surface}
-use Rattle.job_format.specs.Format.{Read, malformed, read, _then_, Terms, Job, knots, controls, surfaceNumbers, termsRecord, toTheEnd}
+use Rattle.job_format.specs.Format.{Read, malformed, read, Terms, Job, knots, controls}
 use Rattle.job_format.specs.declared.Layout.{Layout}
 use Rattle.job_format.specs.declared.Layout.the-variants.{Malformed, WellFormed}
-
-unfoldable pub isMark : ℕ → ℕ → List ℕ → ℕ → Bool
-isMark a b bytes at = eqb (getD bytes at 0) a && eqb (getD bytes (at + 1) 0) b
 
 unfoldable pub floatAt : List ℕ → ℕ → Float
 floatAt bytes at = ofBits binary64 (littleEndian 8 bytes at)
@@ -24,9 +17,6 @@ floatAt bytes at = ofBits binary64 (littleEndian 8 bytes at)
 unfoldable pub floatsAt : ℕ → List ℕ → ℕ → List Float
 floatsAt zero bytes at = []
 floatsAt (suc n) bytes at = floatAt bytes at ∷ floatsAt n bytes (at + 8)
-
-unfoldable pub shapeAt : List ℕ → Shape
-shapeAt bytes = shapeOf (getD bytes 2 0) (getD bytes 3 0) (littleEndian 2 bytes 4) (littleEndian 2 bytes 6) (getD bytes 8 0)
 
 -- how many numbers a surface has, and where they end
 abbrev pub count : Shape → ℕ
@@ -42,16 +32,12 @@ surfaceAt shape bytes =
     let n = controls shape in
     surface shape (floatsAt u bytes 9) (floatsAt v bytes (9 + 8 * u)) (floatsAt (3 * n) bytes (9 + 8 * u + 8 * v)) (floatsAt n bytes (9 + 8 * u + 8 * v + 8 * (3 * n)))
 
--- past the record's mark
+-- the index of a record is that of its mark
 unfoldable pub termsAt : List ℕ → ℕ → Terms
 termsAt bytes at = record { tolerance = floatAt bytes (at + 2); budget = littleEndian 8 bytes (at + 10) }
 
 unfoldable pub markAt : List ℕ → ℕ → Vector3
 markAt bytes at = record { x = floatAt bytes (at + 2); y = floatAt bytes (at + 10); z = floatAt bytes (at + 18) }
-
-unfoldable pub allMarks : ℕ → List ℕ → ℕ → Bool
-allMarks zero bytes at = true
-allMarks (suc n) bytes at = isMark 77 75 bytes at && allMarks n bytes (at + 26)
 
 unfoldable pub marksAt : ℕ → List ℕ → ℕ → List Vector3
 marksAt zero bytes at = []
@@ -60,14 +46,6 @@ marksAt (suc n) bytes at = markAt bytes at ∷ marksAt n bytes (at + 26)
 unfoldable pub jobAt : Shape → ℕ → List ℕ → Job
 jobAt shape n bytes =
     record { surface = surfaceAt shape bytes; terms = termsAt bytes (after shape); marks = marksAt n bytes (after shape + 18) }
-
--- what follows the header
-unfoldable pub fromNumbers : Shape → List ℕ → Read Job
-fromNumbers shape bytes =
-    surfaceNumbers shape bytes then λ s rest.
-    termsRecord rest then λ t rest.
-    toTheEnd rest then λ ps rest.
-    read (record { surface = s; terms = t; marks = ps }) rest
 
 -- what a layout says of a file's bytes
 unfoldable pub told : Layout → List ℕ → Read Job

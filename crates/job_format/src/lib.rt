@@ -6,11 +6,12 @@ use vector3::Vector3;
 use words::pair_at;
 use words::wide;
 ghost use mathlib.Core.Path.{_≡_};
-ghost use mathlib.Core.List.{_++_};
+ghost use mathlib.Core.Bool.{cond};
+ghost use mathlib.Core.List.{[], _∷_, _++_};
 ghost use Prim.Native.Nat.{_+_, _*_, _^_, _≤_, _<_};
-ghost use lib.ListN.{length, drop};
-ghost use Rattle.job_format.specs.Format.{parse, knots, controls};
-ghost use Rattle.job_format.specs.Offsets.{Small, Laid, told, fromNumbers, isMark, allMarks, shapeAt, after, floatAt, floatsAt, markAt};
+ghost use lib.ListN.{length, drop, getD};
+ghost use Rattle.job_format.specs.Format.{malformed, read, mark, counts, knots, controls, markRecords, afterHeader, parse};
+ghost use Rattle.job_format.specs.Offsets.{Small, Laid, told, after, floatAt, floatsAt, markAt, marksAt};
 
 pub const MOST_BYTES: usize = 32_768;
 
@@ -97,7 +98,7 @@ fn numbers_end(shape: Shape) -> usize
 
 fn after_header(bytes: &[u8], shape: Shape) -> Layout
     requires { ⌜ (9 ≤ length (now bytes)) × (length (now bytes) ≤ 32768) × Small shape ⌝ }
-    ensures { λ r. ⌜ fromNumbers shape (drop 9 (now (bytes .entry))) ≡ told r (now (bytes .entry)) ⌝ }
+    ensures { λ r. ⌜ afterHeader shape (drop 9 (now (bytes .entry))) ≡ told r (now (bytes .entry)) ⌝ }
     ensures { λ r. ⌜ Laid (length (now (bytes .entry))) r ⌝ }
 {
     let at = numbers_end(shape);
@@ -119,8 +120,8 @@ fn after_header(bytes: &[u8], shape: Shape) -> Layout
 }
 
 fn header_shape(bytes: &[u8]) -> Shape
-    requires { ⌜ 9 ≤ length (now bytes) ⌝ }
-    ensures { λ r. ⌜ (r ≡ shapeAt (now (bytes .entry))) × Small r ⌝ }
+    requires { ⌜ (9 ≤ length (now bytes)) × (getD (now bytes) 8 0 ≤ 3) ⌝ }
+    ensures { λ r. ⌜ (counts (drop 2 (now (bytes .entry))) ≡ read r (drop 9 (now (bytes .entry)))) × Small r ⌝ }
 {
     shape_of(
         wide(bytes[2]) as usize,
@@ -134,7 +135,7 @@ fn header_shape(bytes: &[u8]) -> Shape
 // Whether `marks` records of a mark follow each other from index `at` on.
 fn all_marks(bytes: &[u8], at: usize, marks: usize) -> bool
     requires { ⌜ at + 26 * marks ≤ length (now bytes) ⌝ }
-    ensures { λ r. ⌜ r ≡ allMarks marks (now (bytes .entry)) at ⌝ }
+    ensures { λ r. ⌜ markRecords marks (drop at (now (bytes .entry))) ≡ cond r (read (marksAt marks (now (bytes .entry)) at) (drop (at + 26 * marks) (now (bytes .entry)))) malformed ⌝ }
 {
     for i in 0..marks {
         if !is_mark(bytes, at + 26 * i, b'M', b'K') {
@@ -146,7 +147,7 @@ fn all_marks(bytes: &[u8], at: usize, marks: usize) -> bool
 
 fn is_mark(bytes: &[u8], at: usize, first: u8, second: u8) -> bool
     requires { ⌜ at + 2 ≤ length (now bytes) ⌝ }
-    ensures { λ r. ⌜ r ≡ isMark first second (now (bytes .entry)) at ⌝ }
+    ensures { λ r. ⌜ mark (first ∷ second ∷ []) (drop at (now (bytes .entry))) ≡ cond r (read tt (drop (at + 2) (now (bytes .entry)))) malformed ⌝ }
 {
     (bytes[at] == first) & (bytes[at + 1] == second)
 }

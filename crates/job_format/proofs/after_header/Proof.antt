@@ -1,5 +1,5 @@
 -- `job_format::after_header` meets its contract: each test that fails is a piece that is malformed. Assumes nothing.
-use mathlib.Core.Path.{refl, sym, _∙_}
+use mathlib.Core.Path.{refl}
 use native.Mathlib.Omega.{arith}
 use borrow.Author.Tests.{not-true, not-false}
 use Rattle.job_format.specs.Offsets.{told}
@@ -30,7 +30,7 @@ returns-2 c =
     let m = c .before in
     let n = m .before .before in
     let a = n .before .before .args in
-    (no-terms (a .bytes .now) (a .shape) (n .numbers-end .result) (n .numbers-end .ensures .0) (n .before .before .pre .0) (m .before .if1 .left) (sym (m .is-mark .ensures) ∙ not-true _ (c .if2 .taken)), tt)
+    (no-terms (a .bytes .now) (a .shape) (n .numbers-end .result) (n .numbers-end .ensures .0) (n .before .before .pre .0) (m .before .if1 .left) (m .is-mark .result) (m .is-mark .ensures) (not-true _ (c .if2 .taken)), tt)
 
 add-left : tie.Need-add-left
 add-left c = search needs
@@ -45,7 +45,7 @@ returns-3 c =
     let m = t .before in
     let n = m .before .before in
     let a = n .before .before .args in
-    (bytes-left (a .bytes .now) (a .shape) (n .numbers-end .result) (n .numbers-end .ensures .0) (n .before .before .pre .0) (m .before .if1 .left) (sym (m .is-mark .ensures) ∙ not-false _ (t .if2 .left)) (c .if3 .taken), tt)
+    (bytes-left (a .bytes .now) (a .shape) (n .numbers-end .result) (n .numbers-end .ensures .0) (n .before .before .pre .0) (m .before .if1 .left) (m .is-mark .result) (m .is-mark .ensures) (not-false _ (t .if2 .left)) (c .if3 .taken), tt)
 
 add-all-marks : tie.Need-add-all-marks
 add-all-marks c = search needs
@@ -61,7 +61,7 @@ returns-4 c =
     let m = t .before in
     let n = m .before .before in
     let a = n .before .before .args in
-    (no-mark (a .bytes .now) (a .shape) (n .numbers-end .result) (n .numbers-end .ensures .0) (n .before .before .pre .0) (m .before .if1 .left) (sym (m .is-mark .ensures) ∙ not-false _ (t .if2 .left)) _ refl (l .before .if3 .left) (sym (l .all-marks .ensures) ∙ not-true _ (c .if4 .taken)), tt)
+    (no-mark (a .bytes .now) (a .shape) (n .numbers-end .result) (n .numbers-end .ensures .0) (n .before .before .pre .0) (m .before .if1 .left) (m .is-mark .result) (m .is-mark .ensures) (not-false _ (t .if2 .left)) _ refl (l .before .if3 .left) (l .all-marks .result) (l .all-marks .ensures) (not-true _ (c .if4 .taken)), tt)
 
 returns-5 : tie.Need-returns-5
 unfolding told
@@ -71,7 +71,7 @@ returns-5 c =
     let m = t .before in
     let n = m .before .before in
     let a = n .before .before .args in (
-      well-formed (a .bytes .now) (a .shape) (n .numbers-end .result) (n .numbers-end .ensures .0) (n .before .before .pre .0) (m .before .if1 .left) (sym (m .is-mark .ensures) ∙ not-false _ (t .if2 .left)) _ refl (l .before .if3 .left) (sym (l .all-marks .ensures) ∙ not-false _ (c .if4 .left)),
+      well-formed (a .bytes .now) (a .shape) (n .numbers-end .result) (n .numbers-end .ensures .0) (n .before .before .pre .0) (m .before .if1 .left) (m .is-mark .result) (m .is-mark .ensures) (not-false _ (t .if2 .left)) _ refl (l .before .if3 .left) (l .all-marks .result) (l .all-marks .ensures) (not-false _ (c .if4 .left)),
       record { few = n .before .before .pre .1; whole = omega (arith, n .numbers-end .ensures .0, l .before .if3 .left) },
     )
 

@@ -1,16 +1,15 @@
--- `job_format::all_marks` meets its contract. The invariant: all records have their mark where those from number i on have. Assumes nothing.
-use mathlib.Core.Path.{_≡_, sym, _∙_}
+-- `job_format::all_marks` meets its contract. The invariant: what a test of the records from number i on says of them, it says of all. Assumes nothing.
+use mathlib.Core.Bool.{Bool, true, false}
 use Prim.Native.Nat.{_+_, _-_, _*_, _≤_}
 use native.Mathlib.Omega.{arith}
 use borrow.Author.Tests.{not-true, not-false}
-use Rattle.job_format.specs.Offsets.{allMarks}
-use Rattle.job_format.proofs.Steps.{marks-begin, marks-go, marks-over}
+use Rattle.job_format.proofs.Steps.{MarksRead, marks-begin, marks-over, marks-stop, marks-go}
 use borrow.Author.Needs.{needs}
 use Rattle.job_format.proofs.all_marks.Statement.{statement}
 use Rattle.job_format.proofs.all_marks.Tie as tie
 
 abbrev Inv-loop : tie.InvT-loop
-Inv-loop bytes at marks i₀ i = (i ≤ marks) × (allMarks marks bytes at ≡ allMarks (marks - i) bytes (at + 26 * i))
+Inv-loop bytes at marks i₀ i = (i ≤ marks) × ((r : Bool) → MarksRead bytes (marks - i) (at + 26 * i) r → MarksRead bytes marks at r)
 
 abbrev μ-loop : tie.MeasureT-loop
 μ-loop bytes at marks i₀ i = marks - i
@@ -32,7 +31,7 @@ returns c =
     let to = c .before .before .before in
     let a = to .before .before .args in
     let l = to .loop in
-    sym (marks-go (a .bytes .now) (a .at) (a .marks) (l .i) _ (l .inv .1) (omega arith) ∙ simp (sym (c .before .is-mark .ensures) ∙ not-true _ (c .if1 .taken)))
+    l .inv .1 false (marks-stop (a .bytes .now) (a .at) (a .marks) (l .i) (omega arith) (omega arith) (c .before .is-mark .result) (c .before .is-mark .ensures) (not-true _ (c .if1 .taken)))
 
 add-i : tie.Need-add-i Inv-loop μ-loop
 add-i c = search needs
@@ -46,14 +45,14 @@ loop-again c =
     let a = to .before .before .args in
     let l = to .loop in (
       search needs,
-      marks-go (a .bytes .now) (a .at) (a .marks) (l .i) _ (l .inv .1) (omega arith) ∙ simp (sym (c .before .is-mark .ensures) ∙ not-false _ (c .if1 .left)),
+      λ r e. l .inv .1 r (marks-go (a .bytes .now) (a .at) (a .marks) (l .i) (omega arith) (omega arith) (c .before .is-mark .result) (c .before .is-mark .ensures) (not-false _ (c .if1 .left)) r e),
     )
 
 returns-2 : tie.Need-returns-2 Inv-loop μ-loop
 returns-2 c =
     let l = c .before .loop in
     let a = c .before .before .before .args in
-    marks-over (a .bytes .now) (a .at) (a .marks) (l .i) _ (l .inv .1) (omega arith)
+    l .inv .1 true (marks-over (a .bytes .now) (a .at) (a .marks) (l .i) (omega arith))
 
 pub all-marks-spec : {M : Type 1} → statement M
 all-marks-spec =

@@ -1,5 +1,6 @@
 -- `job_format::is_mark` meets its contract. Assumes nothing.
-use Rattle.job_format.specs.Offsets.{isMark}
+use native.Mathlib.Omega.{arith}
+use Rattle.job_format.proofs.Pieces.{mark-at}
 use borrow.Author.Needs.{needs}
 use Rattle.job_format.proofs.is_mark.Statement.{statement}
 use Rattle.job_format.proofs.is_mark.Tie as tie
@@ -14,8 +15,7 @@ shared-slice-read-result-2 : tie.Need-shared-slice-read-result-2
 shared-slice-read-result-2 c = search needs
 
 returns : tie.Need-returns
-unfolding isMark
-returns c = search needs
+returns c = let a = c .before .before .args in mark-at (a .bytes .now) (a .first) (a .second) (a .at) (omega arith)
 
 pub is-mark-spec : {M : Type 1} → statement M
 is-mark-spec =

@@ -1,11 +1,9 @@
 -- `job_format::layout_of` meets its contract: each test that fails is a piece that is malformed. Assumes nothing.
-use mathlib.Core.Path.{sym, ap, _∙_}
-use lib.ListN.{drop}
+use mathlib.Core.Path.{_∙_}
 use borrow.Author.Tests.{not-true, not-false}
-use Rattle.surface.specs.declared.Shape.{Shape}
-use Rattle.job_format.specs.Offsets.{told, fromNumbers}
+use Rattle.job_format.specs.Offsets.{told}
 use Rattle.job_format.specs.FormatLaws.{too-long}
-use Rattle.job_format.proofs.Steps.{no-header, no-surface, wrong-flags, on-from-header}
+use Rattle.job_format.proofs.Steps.{no-header, no-surface, wrong-flags, past-header}
 use borrow.Author.Needs.{needs}
 use Rattle.job_format.proofs.layout_of.Statement.{statement}
 use Rattle.job_format.proofs.layout_of.Tie as tie
@@ -26,7 +24,7 @@ unfolding told
 returns-3 c =
     let m = c .before in
     let s = m .before .before in
-    (no-surface (s .before .before .args .bytes .now) (s .if1 .left) (m .before .if2 .left) (sym (m .is-mark .ensures) ∙ not-true _ (c .if3 .taken)), tt)
+    (no-surface (s .before .before .args .bytes .now) (s .if1 .left) (m .before .if2 .left) (m .is-mark .result) (m .is-mark .ensures) (not-true _ (c .if3 .taken)), tt)
 
 shared-slice-read-if4 : tie.Need-shared-slice-read-if4
 shared-slice-read-if4 c = search needs
@@ -37,7 +35,7 @@ returns-4 c =
     let t = c .before .before in
     let m = t .before in
     let s = m .before .before in
-    (wrong-flags (s .before .before .args .bytes .now) (s .if1 .left) (m .before .if2 .left) (sym (m .is-mark .ensures) ∙ not-false _ (t .if3 .left)) (c .if4 .taken), tt)
+    (wrong-flags (s .before .before .args .bytes .now) (s .if1 .left) (m .before .if2 .left) (m .is-mark .result) (m .is-mark .ensures) (not-false _ (t .if3 .left)) (c .if4 .taken), tt)
 
 header-shape-requires : tie.Need-header-shape-requires
 header-shape-requires c κs = search needs
@@ -52,8 +50,7 @@ returns-5 c =
     let m = t .before in
     let s = m .before .before in
     let bytes = s .before .before .args .bytes .now in (
-      on-from-header bytes (s .if1 .left) (m .before .if2 .left) (sym (m .is-mark .ensures) ∙ not-false _ (t .if3 .left)) (f .if4 .left)
-          ∙ ap (λ (shape : Shape). fromNumbers shape (drop 9 bytes)) (sym (c .before .header-shape .ensures .0)) ∙ c .after-header .ensures .0,
+      past-header bytes (s .if1 .left) (m .before .if2 .left) (m .is-mark .result) (m .is-mark .ensures) (not-false _ (t .if3 .left)) _ (c .before .header-shape .ensures .0) ∙ c .after-header .ensures .0,
       c .after-header .ensures .1,
     )
 
