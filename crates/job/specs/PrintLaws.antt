@@ -10,16 +10,16 @@ use Rattle.inversion.specs.declared.Hint.the-variants.{Nothing}
 use Rattle.chart.specs.declared.Period.the-variants.{Free}
 use Rattle.row.specs.Row.{rowed}
 use Rattle.job_lines.specs.Lines.{marksLine, refusedLine}
-use Rattle.job_format.specs.Format.{malformed, read, Job, parse}
+use Rattle.job_format.specs.Format.{mostBytes, malformed, read, Job, parse}
 use Rattle.job_format.specs.FormatLaws.{too-long}
-use Rattle.job.specs.Printout.{rowLines, jobLines, printed, printout}
+use Rattle.job.specs.Printout.{mostPrinted, rowLines, jobLines, printed, printout}
 
 -- "A malformed file prints only `refused 12 at 0`"
 pub malformed-prints : (bytes : List ℕ) → parse bytes ≡ malformed → printout bytes ≡ ascii "refused 12 at 0\n"
 unfolding printout printed refusedLine ascii digit digits placesIn decimal
 malformed-prints bytes e = ap printed e
 
-pub too-long-prints : (bytes : List ℕ) → 32768 < length bytes → printout bytes ≡ ascii "refused 12 at 0\n"
+pub too-long-prints : (bytes : List ℕ) → mostBytes < length bytes → printout bytes ≡ ascii "refused 12 at 0\n"
 too-long-prints bytes h = malformed-prints bytes (too-long bytes h)
 
 -- "Line 1: marks in the file, decimal", then the row's lines
@@ -29,7 +29,7 @@ unfolding printout printed jobLines
 first-line-counts bytes job rest e = ap printed e
 
 -- what `job` ensures: the printout is the front of the buffer
-module _ (file rest : List ℕ) {buffer : List ℕ} {n : ℕ} (p : (buffer ≡ printout file ++ rest) × ((n ≡ length (printout file)) × (n ≤ 69632))) where
+module _ (file rest : List ℕ) {buffer : List ℕ} {n : ℕ} (p : (buffer ≡ printout file ++ rest) × ((n ≡ length (printout file)) × (n ≤ mostPrinted))) where
   pub front : take n buffer ≡ printout file
   front = ap (take n) (p .0) ∙ take-at (printout file) rest n (sym (p .1 .0))
 

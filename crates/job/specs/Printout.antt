@@ -10,6 +10,10 @@ use Rattle.row.specs.Row.{Placed, Rowed, rowed}
 use Rattle.job_lines.specs.Lines.{marksLine, pairLine, refusedLine}
 use Rattle.job_format.specs.Format.{Read, malformed, read, Job, parse}
 
+-- room for every printout: a job file has at most 1,258 marks
+abbrev pub mostPrinted : ℕ
+mostPrinted = 69632
+
 unfoldable pub pairLines : List Placed → List ℕ
 pairLines [] = []
 pairLines (p ∷ ps) = pairLine (p .u) (p .v) (p .left) ++ pairLines ps

@@ -2,6 +2,7 @@
 mod marks;
 mod surfaces;
 
+use job_format::HEADER_SIZE;
 use job_format::Layout;
 use job_format::controls;
 use job_format::decode;
@@ -16,7 +17,7 @@ ghost use Prim.Native.Nat.{_≤_};
 ghost use lib.ListN.{length, drop};
 ghost use Rattle.digits.specs.Text.{Put};
 ghost use Rattle.job_format.specs.Offsets.{Fits, jobAt};
-ghost use Rattle.job.specs.Printout.{jobLines, printout};
+ghost use Rattle.job.specs.Printout.{mostPrinted, jobLines, printout};
 
 // Room for every printout: a job file has at most 1,258 marks, and no line is longer than 55 bytes.
 pub const MOST_PRINTED: usize = 69_632;
@@ -24,7 +25,7 @@ pub const MOST_PRINTED: usize = 69_632;
 // Prints into the front of the buffer and answers how many bytes.
 pub fn job(bytes: &[u8], out: &mut [u8; MOST_PRINTED]) -> usize
     ensures { λ r. ⌜ now (out .exit) ≡ printout (now (bytes .entry)) ++ drop r (now (out .entry)) ⌝ }
-    ensures { λ r. ⌜ (r ≡ length (printout (now (bytes .entry)))) × (r ≤ 69632) ⌝ }
+    ensures { λ r. ⌜ (r ≡ length (printout (now (bytes .entry)))) × (r ≤ mostPrinted) ⌝ }
 {
     let layout = layout_of(bytes);
     match layout {
@@ -36,14 +37,14 @@ pub fn job(bytes: &[u8], out: &mut [u8; MOST_PRINTED]) -> usize
 fn print_job(bytes: &[u8], shape: Shape, marks: usize, out: &mut [u8; MOST_PRINTED]) -> usize
     requires { ⌜ Fits (length (now bytes)) shape marks ⌝ }
     ensures { λ r. ⌜ Put 0 (jobLines (jobAt shape marks (now (bytes .entry)))) (now (out .entry)) (now (out .exit)) r ⌝ }
-    ensures { λ r. ⌜ r ≤ 69632 ⌝ }
+    ensures { λ r. ⌜ r ≤ mostPrinted ⌝ }
 {
     let u = shape.u;
     let v = shape.v;
     let mut numbers = [0.0f64; 4096];
     decode(
         bytes,
-        9,
+        HEADER_SIZE,
         knots(u) + knots(v) + 4 * controls(shape),
         &mut numbers,
     );

@@ -3,6 +3,7 @@ use chart::Period;
 use chart::Placing;
 use chart::invert_checked;
 use inversion::Hint;
+use job_format::MARK_SIZE;
 use job_format::mark_at;
 use job_lines::put_pair;
 use job_lines::put_refusal;
@@ -19,7 +20,9 @@ ghost use Rattle.inversion.specs.declared.Hint.the-variants.{Nothing};
 ghost use Rattle.chart.specs.declared.Period.the-variants.{Free};
 ghost use Rattle.inverter.specs.Inverter.{placed};
 ghost use Rattle.row.specs.Row.{inTurn};
+ghost use Rattle.job_format.specs.Format.{markSize};
 ghost use Rattle.job_format.specs.Offsets.{marksAt};
+ghost use Rattle.job_lines.specs.Lines.{longestLine};
 ghost use Rattle.job.specs.Printout.{rowLines};
 ghost use Rattle.job.specs.Turns.{placingLine, Printable};
 
@@ -38,14 +41,14 @@ pub(crate) fn print_marks(
     out: &mut [u8],
     from: usize,
 ) -> usize
-    requires { ⌜ Scaled (surface shape (now ku) (now kv) (now controls) (now weights)) scale × (first + 26 * marks ≤ length (now bytes)) × (from + 55 * (marks + 1) ≤ length (now out)) ⌝ }
+    requires { ⌜ Scaled (surface shape (now ku) (now kv) (now controls) (now weights)) scale × (first + markSize * marks ≤ length (now bytes)) × (from + longestLine * (marks + 1) ≤ length (now out)) ⌝ }
     ensures { λ r. ⌜ Put from (rowLines (inTurn (surface shape (now (ku .entry)) (now (kv .entry)) (now (controls .entry)) (now (weights .entry))) tolerance Free Free 0 (marksAt marks (now (bytes .entry)) first) Nothing budget)) (now (out .entry)) (now (out .exit)) r ⌝ }
 {
     let mut hint = Hint::Nothing;
     let mut left = budget;
     let mut at = from;
     for i in 0..marks {
-        let mark = mark_at(bytes, first + 26 * i);
+        let mark = mark_at(bytes, first + MARK_SIZE * i);
         let placing = place(
             shape,
             ku,
@@ -101,9 +104,9 @@ fn place(
 }
 
 fn put_placing(out: &mut [u8], at: usize, i: usize, budget: u64, placing: Placing) -> usize
-    requires { ⌜ (at + 55 ≤ length (now out)) × Printable budget placing ⌝ }
+    requires { ⌜ (at + longestLine ≤ length (now out)) × Printable budget placing ⌝ }
     ensures { λ r. ⌜ Put at (placingLine i budget placing) (now (out .entry)) (now (out .exit)) r ⌝ }
-    ensures { λ r. ⌜ r ≤ at + 55 ⌝ }
+    ensures { λ r. ⌜ r ≤ at + longestLine ⌝ }
 {
     match placing {
         Placing::Pair(u, v, taken) => put_pair(out, at, u, v, budget - taken),

@@ -3,6 +3,8 @@ use crate::marks::print_marks;
 use chart::Period;
 use chart::sound_terms;
 use inversion::Hint;
+use job_format::HEADER_SIZE;
+use job_format::TERMS_SIZE;
 use job_format::controls;
 use job_format::knots;
 use job_format::number_at;
@@ -22,8 +24,10 @@ ghost use Rattle.scaled.specs.Scaled.{Scaled};
 ghost use Rattle.inversion.specs.declared.Hint.the-variants.{Nothing};
 ghost use Rattle.chart.specs.declared.Period.the-variants.{Free};
 ghost use Rattle.row.specs.Row.{rowed};
+ghost use Rattle.job_format.specs.Format.{headerSize, markSize};
 ghost use Rattle.job_format.specs.Offsets.{Fits, count, floatsAt, marksAt, jobAt};
-ghost use Rattle.job.specs.Printout.{rowLines, jobLines};
+ghost use Rattle.job_lines.specs.Lines.{longestLine};
+ghost use Rattle.job.specs.Printout.{mostPrinted, rowLines, jobLines};
 
 // The surface's numbers are at the front of those lent.
 pub(crate) fn print_decoded(
@@ -33,17 +37,17 @@ pub(crate) fn print_decoded(
     numbers: &[f64; 4096],
     out: &mut [u8],
 ) -> usize
-    requires { ⌜ Fits (length (now bytes)) shape marks × (take (count shape) (now numbers) ≡ floatsAt (count shape) (now bytes) 9) × (length (now out) ≡ 69632) ⌝ }
+    requires { ⌜ Fits (length (now bytes)) shape marks × (take (count shape) (now numbers) ≡ floatsAt (count shape) (now bytes) headerSize) × (length (now out) ≡ mostPrinted) ⌝ }
     ensures { λ r. ⌜ Put 0 (jobLines (jobAt shape marks (now (bytes .entry)))) (now (out .entry)) (now (out .exit)) r ⌝ }
-    ensures { λ r. ⌜ r ≤ 69632 ⌝ }
+    ensures { λ r. ⌜ r ≤ mostPrinted ⌝ }
 {
     print_numbers(bytes, shape, marks, numbers, out)
 }
 
 fn print_numbers(bytes: &[u8], shape: Shape, marks: usize, numbers: &[f64], out: &mut [u8]) -> usize
-    requires { ⌜ Fits (length (now bytes)) shape marks × (length (now numbers) ≡ 4096) × (take (count shape) (now numbers) ≡ floatsAt (count shape) (now bytes) 9) × (length (now out) ≡ 69632) ⌝ }
+    requires { ⌜ Fits (length (now bytes)) shape marks × (length (now numbers) ≡ 4096) × (take (count shape) (now numbers) ≡ floatsAt (count shape) (now bytes) headerSize) × (length (now out) ≡ mostPrinted) ⌝ }
     ensures { λ r. ⌜ Put 0 (jobLines (jobAt shape marks (now (bytes .entry)))) (now (out .entry)) (now (out .exit)) r ⌝ }
-    ensures { λ r. ⌜ r ≤ 69632 ⌝ }
+    ensures { λ r. ⌜ r ≤ mostPrinted ⌝ }
 {
     let u = shape.u;
     let v = shape.v;
@@ -52,7 +56,7 @@ fn print_numbers(bytes: &[u8], shape: Shape, marks: usize, numbers: &[f64], out:
     let b = a + knots(v);
     let c = b + 3 * total;
     let d = c + total;
-    let at = 9 + 8 * d;
+    let at = HEADER_SIZE + 8 * d;
     let tolerance = number_at(bytes, at + 2);
     let budget = words::word_at(bytes, at + 10);
     let from = put_marks(out, 0, marks);
@@ -64,7 +68,7 @@ fn print_numbers(bytes: &[u8], shape: Shape, marks: usize, numbers: &[f64], out:
         &numbers[c..d],
         tolerance,
         bytes,
-        at + 18,
+        at + TERMS_SIZE,
         marks,
         budget,
         out,
@@ -87,7 +91,7 @@ fn print_row(
     out: &mut [u8],
     from: usize,
 ) -> usize
-    requires { ⌜ (first + 26 * marks ≤ length (now bytes)) × (from + 55 * (marks + 1) ≤ length (now out)) ⌝ }
+    requires { ⌜ (first + markSize * marks ≤ length (now bytes)) × (from + longestLine * (marks + 1) ≤ length (now out)) ⌝ }
     ensures { λ r. ⌜ Put from (rowLines (rowed (surface shape (now (ku .entry)) (now (kv .entry)) (now (controls .entry)) (now (weights .entry))) (marksAt marks (now (bytes .entry)) first) Nothing tolerance Free Free budget)) (now (out .entry)) (now (out .exit)) r ⌝ }
 {
     let checked = check(shape, ku, kv, controls, weights);
@@ -127,7 +131,7 @@ fn print_checked(
     out: &mut [u8],
     from: usize,
 ) -> usize
-    requires { ⌜ Scaled (surface shape (now ku) (now kv) (now controls) (now weights)) scale × (first + 26 * marks ≤ length (now bytes)) × (from + 55 * (marks + 1) ≤ length (now out)) ⌝ }
+    requires { ⌜ Scaled (surface shape (now ku) (now kv) (now controls) (now weights)) scale × (first + markSize * marks ≤ length (now bytes)) × (from + longestLine * (marks + 1) ≤ length (now out)) ⌝ }
     ensures { λ r. ⌜ Put from (rowLines (rowed (surface shape (now (ku .entry)) (now (kv .entry)) (now (controls .entry)) (now (weights .entry))) (marksAt marks (now (bytes .entry)) first) Nothing tolerance Free Free budget)) (now (out .entry)) (now (out .exit)) r ⌝ }
 {
     if !sound_terms(Hint::Nothing, tolerance, Period::Free, Period::Free) {

@@ -16,7 +16,7 @@ use Rattle.digits.specs.Text.{ascii}
 use Rattle.vector3.specs.declared.Vector3.{Vector3}
 use Rattle.surface.specs.declared.Shape.{Shape}
 use Rattle.surface.specs.Flags.{shapeOf}
-use Rattle.job_format.specs.Format.{Read, malformed, read, _then_, mark, number, float, floats, flags, counts, header, knots, controls, surfaceNumbers, terms, termsRecord, point, markRecord, markRecords, ended, toTheEnd}
+use Rattle.job_format.specs.Format.{headerSize, termsSize, markSize, Read, malformed, read, _then_, mark, number, float, floats, flags, counts, header, knots, controls, surfaceNumbers, terms, termsRecord, point, markRecord, markRecords, ended, toTheEnd}
 use Rattle.job_format.specs.Offsets.{count}
 use Rattle.job_format.specs.OffsetLaws.{number-at}
 
@@ -95,7 +95,7 @@ takes-flags =
     takes-then 1 0 (number 1) (λ f rest. cond (leb f 3) (read f rest) malformed) (takes-number 1)
     (λ f. takes-cond 0 (λ rest. leb f 3) (λ rest. read f rest) (takes-read f))
 
-pub takes-header : Takes 9 header
+pub takes-header : Takes headerSize header
 unfolding header counts ascii
 takes-header =
     takes-then 2 7 _ _ (takes-mark (ascii "SF")) (λ m.
@@ -117,14 +117,14 @@ takes-numbers shape =
     takes-then (8 * (3 * n)) _ _ _ (takes-floats (3 * n)) (λ cs.
     takes-then (8 * n) 0 _ _ (takes-floats n) (λ ws. takes-read _)))))
 
-pub takes-terms : Takes 18 termsRecord
+pub takes-terms : Takes termsSize termsRecord
 unfolding termsRecord terms ascii
 takes-terms =
     takes-then 2 16 _ _ (takes-mark (ascii "TL")) (λ m.
     takes-then 8 8 _ _ takes-float (λ x.
     takes-then 8 0 _ _ (takes-number 8) (λ n. takes-read _)))
 
-takes-record : Takes 26 markRecord
+takes-record : Takes markSize markRecord
 unfolding markRecord point ascii
 takes-record =
     takes-then 2 24 _ _ (takes-mark (ascii "MK")) (λ m.
@@ -132,20 +132,20 @@ takes-record =
     takes-then 8 8 _ _ takes-float (λ y.
     takes-then 8 0 _ _ takes-float (λ z. takes-read _))))
 
-takes-records : (n : ℕ) → Takes (26 * n) (markRecords n)
+takes-records : (n : ℕ) → Takes (markSize * n) (markRecords n)
 unfolding markRecords
 takes-records zero = takes-read []
 takes-records (suc n) =
-    takes-as (26 + (26 * n + 0)) (26 * suc n) _ (omega arith)
-    (takes-then 26 (26 * n + 0) _ _ takes-record (λ p. takes-then (26 * n) 0 _ _ (takes-records n) (λ ps. takes-read (p ∷ ps))))
+    takes-as (markSize + (markSize * n + 0)) (markSize * suc n) _ (omega arith)
+    (takes-then markSize (markSize * n + 0) _ _ takes-record (λ p. takes-then (markSize * n) 0 _ _ (takes-records n) (λ ps. takes-read (p ∷ ps))))
 
-pub left-over : (bytes : List ℕ) → (length bytes % 26 ≡ 0 → ⊥) → toTheEnd bytes ≡ malformed
+pub left-over : (bytes : List ℕ) → (length bytes % markSize ≡ 0 → ⊥) → toTheEnd bytes ≡ malformed
 unfolding toTheEnd ended _then_
-left-over bytes z = by (markRecords (length bytes / 26) bytes) refl
+left-over bytes z = by (markRecords (length bytes / markSize) bytes) refl
   where
-    by : (r : Read (List Vector3)) → markRecords (length bytes / 26) bytes ≡ r → (r then ended) ≡ malformed
+    by : (r : Read (List Vector3)) → markRecords (length bytes / markSize) bytes ≡ r → (r then ended) ≡ malformed
     by malformed e = refl
-    by (read ps []) e = absurd (z (omega (arith, takes-records (length bytes / 26) bytes ps [] e)))
+    by (read ps []) e = absurd (z (omega (arith, takes-records (length bytes / markSize) bytes ps [] e)))
     by (read ps (b ∷ rest)) e = refl
 
 -- ---- what a test of bytes at an index says of the piece there
@@ -169,14 +169,14 @@ module _ (bytes : List ℕ) where
   unfolding littleEndian
   one-byte at = simp add-zero (omega arith)
 
-  module _ (h : 9 ≤ length bytes) where
+  module _ (h : headerSize ≤ length bytes) where
     up-to-flags : (t : Bool) → leb (getD bytes 8 0) 3 ≡ t
-        → counts (drop 2 bytes) ≡ cond t (read (shapeOf (getD bytes 2 0) (getD bytes 3 0) (littleEndian 2 bytes 4) (littleEndian 2 bytes 6) (getD bytes 8 0)) (drop 9 bytes)) malformed
+        → counts (drop 2 bytes) ≡ cond t (read (shapeOf (getD bytes 2 0) (getD bytes 3 0) (littleEndian 2 bytes 4) (littleEndian 2 bytes 6) (getD bytes 8 0)) (drop headerSize bytes)) malformed
     unfolding counts flags _then_
     up-to-flags true e = simp (number-at bytes 1 2 (omega arith), number-at bytes 1 3 (omega arith), number-at bytes 2 4 (omega arith), number-at bytes 2 6 (omega arith), number-at bytes 1 8 (omega arith), one-byte, e)
     up-to-flags false e = simp (number-at bytes 1 2 (omega arith), number-at bytes 1 3 (omega arith), number-at bytes 2 4 (omega arith), number-at bytes 2 6 (omega arith), number-at bytes 1 8 (omega arith), one-byte, e)
 
-    pub counts-at : getD bytes 8 0 ≤ 3 → counts (drop 2 bytes) ≡ read (shapeOf (getD bytes 2 0) (getD bytes 3 0) (littleEndian 2 bytes 4) (littleEndian 2 bytes 6) (getD bytes 8 0)) (drop 9 bytes)
+    pub counts-at : getD bytes 8 0 ≤ 3 → counts (drop 2 bytes) ≡ read (shapeOf (getD bytes 2 0) (getD bytes 3 0) (littleEndian 2 bytes 4) (littleEndian 2 bytes 6) (getD bytes 8 0)) (drop headerSize bytes)
     counts-at f = up-to-flags true (le-leb (getD bytes 8 0) 3 f)
 
     pub other-flags : 3 < getD bytes 8 0 → counts (drop 2 bytes) ≡ malformed

@@ -13,7 +13,7 @@ use borrow.Author.Tests.{le-leb}
 use Rattle.digits.specs.Text.{ascii}
 use Rattle.surface.specs.declared.Shape.{Shape}
 use Rattle.surface.specs.Flags.{shapeOf}
-use Rattle.job_format.specs.Format.{Read, malformed, read, _then_, mark, counts, header, surfaceNumbers, termsRecord, markRecord, markRecords, ended, toTheEnd, afterHeader, parse}
+use Rattle.job_format.specs.Format.{mostBytes, headerSize, termsSize, markSize, Read, malformed, read, _then_, mark, counts, header, surfaceNumbers, termsRecord, markRecord, markRecords, ended, toTheEnd, afterHeader, parse}
 use Rattle.job_format.specs.Offsets.{Small, floatAt, floatsAt, count, after, surfaceAt, termsAt, marksAt, jobAt}
 use Rattle.job_format.specs.OffsetLaws.{floats-length, floats-split, numbers-at, terms-at, point-at}
 use Rattle.job_format.proofs.Pieces.{Takes, short, takes-header, takes-numbers, takes-terms, left-over, other-flags}
@@ -36,7 +36,7 @@ module _ (bytes : List ℕ) (at i : ℕ) (numbers₀ numbers : List Float) (e : 
 module _ (bytes : List ℕ) where
   -- what a test of n records from index `at` on says of them
   abbrev pub MarksRead : ℕ → ℕ → Bool → Type 0
-  MarksRead n at t = markRecords n (drop at bytes) ≡ cond t (read (marksAt n bytes at) (drop (at + 26 * n) bytes)) malformed
+  MarksRead n at t = markRecords n (drop at bytes) ≡ cond t (read (marksAt n bytes at) (drop (at + markSize * n) bytes)) malformed
 
   -- and of one record's mark
   abbrev pub MarkRead : ℕ → ℕ → ℕ → Bool → Type 0
@@ -46,37 +46,37 @@ module _ (bytes : List ℕ) where
   unfolding markRecords marksAt
   no-marks at = simp add-zero
 
-  module _ (n at : ℕ) (h : at + 26 ≤ length bytes) (t : Bool) (m : MarkRead 77 75 at t) where
+  module _ (n at : ℕ) (h : at + markSize ≤ length bytes) (t : Bool) (m : MarkRead 77 75 at t) where
     first-fails : t ≡ false → MarksRead (suc n) at false
     unfolding markRecords markRecord ascii _then_
     first-fails f = simp (m, f)
 
-    first-holds : t ≡ true → (r : Bool) → MarksRead n (at + 26) r → MarksRead (suc n) at r
+    first-holds : t ≡ true → (r : Bool) → MarksRead n (at + markSize) r → MarksRead (suc n) at r
     unfolding markRecords markRecord marksAt ascii _then_
     first-holds f true e =
-        let k : at + 26 + 26 * n ≡ at + 26 * suc n = omega arith in
+        let k : at + markSize + markSize * n ≡ at + markSize * suc n = omega arith in
         simp (m, f, point-at bytes at h, e, k)
     first-holds f false e = simp (m, f, point-at bytes at h, e)
 
   module _ (at n : ℕ) where
-    pub marks-begin : (r : Bool) → MarksRead (n - 0) (at + 26 * 0) r → MarksRead n at r
+    pub marks-begin : (r : Bool) → MarksRead (n - 0) (at + markSize * 0) r → MarksRead n at r
     marks-begin r e = simp (sub-zero, add-zero) at e
 
     module _ (i : ℕ) where
-      pub marks-over : n ≤ i → MarksRead (n - i) (at + 26 * i) true
-      marks-over h = let k : n - i ≡ 0 = omega arith in rw k (no-marks (at + 26 * i))
+      pub marks-over : n ≤ i → MarksRead (n - i) (at + markSize * i) true
+      marks-over h = let k : n - i ≡ 0 = omega arith in rw k (no-marks (at + markSize * i))
 
-      module _ (h : i < n) (inside : at + 26 * n ≤ length bytes) (t : Bool) (m : MarkRead 77 75 (at + 26 * i) t) where
+      module _ (h : i < n) (inside : at + markSize * n ≤ length bytes) (t : Bool) (m : MarkRead 77 75 (at + markSize * i) t) where
         k : n - i ≡ suc (n - (i + 1))
         k = omega arith
 
-        pub marks-stop : t ≡ false → MarksRead (n - i) (at + 26 * i) false
-        marks-stop f = rw k (first-fails (n - (i + 1)) (at + 26 * i) (omega arith) t m f)
+        pub marks-stop : t ≡ false → MarksRead (n - i) (at + markSize * i) false
+        marks-stop f = rw k (first-fails (n - (i + 1)) (at + markSize * i) (omega arith) t m f)
 
-        pub marks-go : t ≡ true → (r : Bool) → MarksRead (n - (i + 1)) (at + 26 * (i + 1)) r → MarksRead (n - i) (at + 26 * i) r
+        pub marks-go : t ≡ true → (r : Bool) → MarksRead (n - (i + 1)) (at + markSize * (i + 1)) r → MarksRead (n - i) (at + markSize * i) r
         marks-go f r e =
-            let next : at + 26 * (i + 1) ≡ at + 26 * i + 26 = omega arith in
-            rw k (first-holds (n - (i + 1)) (at + 26 * i) (omega arith) t m f r (rw next at e))
+            let next : at + markSize * (i + 1) ≡ at + markSize * i + markSize = omega arith in
+            rw k (first-holds (n - (i + 1)) (at + markSize * i) (omega arith) t m f r (rw next at e))
 
 -- ---- counts
 
@@ -103,58 +103,58 @@ when-none : {A B : Type 0} (p : Read A) (f : A → List ℕ → Read B) → p �
 unfolding _then_
 when-none p f e = simp e
 
-module _ (bytes : List ℕ) (shape : Shape) (at : ℕ) (e : at ≡ after shape) (least : 9 ≤ length bytes) where
-  pub cut-off : length bytes < at + 18 → afterHeader shape (drop 9 bytes) ≡ malformed
+module _ (bytes : List ℕ) (shape : Shape) (at : ℕ) (e : at ≡ after shape) (least : headerSize ≤ length bytes) where
+  pub cut-off : length bytes < at + termsSize → afterHeader shape (drop headerSize bytes) ≡ malformed
   unfolding afterHeader
   cut-off h =
-      short-second (8 * count shape) 18 (surfaceNumbers shape) (λ s. termsRecord)
+      short-second (8 * count shape) termsSize (surfaceNumbers shape) (λ s. termsRecord)
       (λ s t rest. toTheEnd rest then λ ps rest. read (record { surface = s; terms = t; marks = ps }) rest)
-      (takes-numbers shape) (λ s. takes-terms) (drop 9 bytes) (omega (arith, length-drop 9 bytes))
+      (takes-numbers shape) (λ s. takes-terms) (drop headerSize bytes) (omega (arith, length-drop headerSize bytes))
 
-  module _ (long : at + 18 ≤ length bytes) (t : Bool) (m : MarkRead bytes 84 76 at t) where
-    pub no-terms : t ≡ false → afterHeader shape (drop 9 bytes) ≡ malformed
+  module _ (long : at + termsSize ≤ length bytes) (t : Bool) (m : MarkRead bytes 84 76 at t) where
+    pub no-terms : t ≡ false → afterHeader shape (drop headerSize bytes) ≡ malformed
     unfolding afterHeader termsRecord ascii _then_
     no-terms f = rw (numbers-at bytes shape (omega arith), ← e, m, f)
 
     module _ (holds : t ≡ true) where
-      marks-found : afterHeader shape (drop 9 bytes)
-          ≡ (toTheEnd (drop (at + 18) bytes) then λ ps rest. read (record { surface = surfaceAt shape bytes; terms = termsAt bytes at; marks = ps }) rest)
+      marks-found : afterHeader shape (drop headerSize bytes)
+          ≡ (toTheEnd (drop (at + termsSize) bytes) then λ ps rest. read (record { surface = surfaceAt shape bytes; terms = termsAt bytes at; marks = ps }) rest)
       unfolding afterHeader termsRecord ascii _then_
       marks-found = rw (numbers-at bytes shape (omega arith), ← e, m, holds, terms-at bytes at long)
 
       abbrev left : ℕ
-      left = length bytes - (at + 18)
+      left = length bytes - (at + termsSize)
 
-      pub bytes-left : (left % 26 ≡ 0 → ⊥) → afterHeader shape (drop 9 bytes) ≡ malformed
-      bytes-left z = marks-found ∙ when-none _ _ (left-over (drop (at + 18) bytes) (rw (length-drop (at + 18) bytes) z))
+      pub bytes-left : (left % markSize ≡ 0 → ⊥) → afterHeader shape (drop headerSize bytes) ≡ malformed
+      bytes-left z = marks-found ∙ when-none _ _ (left-over (drop (at + termsSize) bytes) (rw (length-drop (at + termsSize) bytes) z))
 
-      module _ (n : ℕ) (n-is : n ≡ left / 26) (z : left % 26 ≡ 0) (r : Bool) (p : MarksRead bytes n (at + 18) r) where
-        end-found : (b : Bool) → r ≡ b → toTheEnd (drop (at + 18) bytes) ≡ cond b (read (marksAt n bytes (at + 18)) []) malformed
+      module _ (n : ℕ) (n-is : n ≡ left / markSize) (z : left % markSize ≡ 0) (r : Bool) (p : MarksRead bytes n (at + termsSize) r) where
+        end-found : (b : Bool) → r ≡ b → toTheEnd (drop (at + termsSize) bytes) ≡ cond b (read (marksAt n bytes (at + termsSize)) []) malformed
         unfolding toTheEnd ended _then_
         end-found true q =
-            let d : drop (at + 18 + 26 * n) bytes ≡ [] = drop-of-length-le bytes {i = at + 18 + 26 * n} (omega arith) in
-            rw (length-drop (at + 18) bytes, ← n-is, p, q, d)
-        end-found false q = rw (length-drop (at + 18) bytes, ← n-is, p, q)
+            let d : drop (at + termsSize + markSize * n) bytes ≡ [] = drop-of-length-le bytes {i = at + termsSize + markSize * n} (omega arith) in
+            rw (length-drop (at + termsSize) bytes, ← n-is, p, q, d)
+        end-found false q = rw (length-drop (at + termsSize) bytes, ← n-is, p, q)
 
-        pub no-mark : r ≡ false → afterHeader shape (drop 9 bytes) ≡ malformed
+        pub no-mark : r ≡ false → afterHeader shape (drop headerSize bytes) ≡ malformed
         no-mark a = marks-found ∙ when-none _ _ (end-found false a)
 
-        pub well-formed : r ≡ true → afterHeader shape (drop 9 bytes) ≡ read (jobAt shape n bytes) []
+        pub well-formed : r ≡ true → afterHeader shape (drop headerSize bytes) ≡ read (jobAt shape n bytes) []
         unfolding jobAt _then_
         well-formed a = marks-found ∙ rw (end-found true a, ← e)
 
 -- ---- the file
 
 module _ (bytes : List ℕ) where
-  module _ (few : length bytes ≤ 32768) where
+  module _ (few : length bytes ≤ mostBytes) where
     headless : header bytes ≡ malformed → parse bytes ≡ malformed
     unfolding parse _then_
-    headless e = simp (le-leb (length bytes) 32768 few, e)
+    headless e = simp (le-leb (length bytes) mostBytes few, e)
 
-    pub no-header : length bytes < 9 → parse bytes ≡ malformed
-    no-header h = headless (short 9 header takes-header bytes h)
+    pub no-header : length bytes < headerSize → parse bytes ≡ malformed
+    no-header h = headless (short headerSize header takes-header bytes h)
 
-    module _ (least : 9 ≤ length bytes) (t : Bool) (m : MarkRead bytes 83 70 0 t) where
+    module _ (least : headerSize ≤ length bytes) (t : Bool) (m : MarkRead bytes 83 70 0 t) where
       pub no-surface : t ≡ false → parse bytes ≡ malformed
       unfolding header ascii _then_
       no-surface f = headless (simp (m, f))
@@ -164,6 +164,6 @@ module _ (bytes : List ℕ) where
         unfolding header ascii _then_
         wrong-flags h = headless (simp (m, holds, other-flags bytes least h))
 
-        pub past-header : (shape : Shape) → counts (drop 2 bytes) ≡ read shape (drop 9 bytes) → parse bytes ≡ afterHeader shape (drop 9 bytes)
+        pub past-header : (shape : Shape) → counts (drop 2 bytes) ≡ read shape (drop headerSize bytes) → parse bytes ≡ afterHeader shape (drop headerSize bytes)
         unfolding parse header ascii _then_
-        past-header shape e = simp (le-leb (length bytes) 32768 few, m, holds, e)
+        past-header shape e = simp (le-leb (length bytes) mostBytes few, m, holds, e)

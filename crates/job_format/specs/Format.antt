@@ -24,6 +24,20 @@ unfoldable pub _then_ : {A B : Type 0} → Read A → (A → List ℕ → Read B
 malformed then f = malformed
 (read a rest) then f = f a rest
 
+-- ---- sizes, in bytes: of a file, of what stands before a surface's numbers, and of the two other records
+
+abbrev pub mostBytes : ℕ
+mostBytes = 32768
+
+abbrev pub headerSize : ℕ
+headerSize = 9
+
+abbrev pub termsSize : ℕ
+termsSize = 18
+
+abbrev pub markSize : ℕ
+markSize = 26
+
 -- ---- the pieces
 
 -- a record's mark
@@ -116,9 +130,9 @@ unfoldable pub ended : {A : Type 0} → A → List ℕ → Read A
 ended a [] = read a []
 ended a (b ∷ bytes) = malformed
 
--- as many marks as there is room for, 26 bytes each
+-- as many marks as there is room for
 unfoldable pub toTheEnd : List ℕ → Read (List Vector3)
-toTheEnd bytes = markRecords (length bytes / 26) bytes then ended
+toTheEnd bytes = markRecords (length bytes / markSize) bytes then ended
 
 unfoldable pub afterHeader : Shape → List ℕ → Read Job
 afterHeader shape bytes =
@@ -128,4 +142,4 @@ afterHeader shape bytes =
     read (record { surface = s; terms = t; marks = ps }) rest
 
 unfoldable pub parse : List ℕ → Read Job
-parse bytes = cond (leb (length bytes) 32768) (header bytes then afterHeader) malformed
+parse bytes = cond (leb (length bytes) mostBytes) (header bytes then afterHeader) malformed

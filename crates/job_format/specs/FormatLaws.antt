@@ -4,8 +4,8 @@ use mathlib.Core.List.{List}
 use Prim.Native.Nat.{ℕ, _<_}
 use lib.ListN.{length}
 use borrow.Author.Tests.{lt-leb}
-use Rattle.job_format.specs.Format.{malformed, parse}
+use Rattle.job_format.specs.Format.{mostBytes, malformed, parse}
 
-pub too-long : (bytes : List ℕ) → 32768 < length bytes → parse bytes ≡ malformed
+pub too-long : (bytes : List ℕ) → mostBytes < length bytes → parse bytes ≡ malformed
 unfolding parse
-too-long bytes h = simp (lt-leb (length bytes) 32768 h)
+too-long bytes h = simp (lt-leb (length bytes) mostBytes h)

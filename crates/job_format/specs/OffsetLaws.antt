@@ -12,7 +12,7 @@ use lib.Ieee.{Float}
 use borrow.Author.Tests.{le-leb}
 use Rattle.words.specs.Words.{littleEndian}
 use Rattle.surface.specs.declared.Shape.{Shape}
-use Rattle.job_format.specs.Format.{read, _then_, number, float, floats, knots, controls, surfaceNumbers, terms, point}
+use Rattle.job_format.specs.Format.{headerSize, termsSize, markSize, read, _then_, number, float, floats, knots, controls, surfaceNumbers, terms, point}
 use Rattle.job_format.specs.Offsets.{floatAt, floatsAt, after, surfaceAt, termsAt, markAt}
 
 module _ (bytes : List ℕ) where
@@ -40,14 +40,14 @@ module _ (bytes : List ℕ) where
       let e : at + 8 + 8 * n ≡ at + 8 * suc n = omega arith in
       simp (float-at at (omega arith), floats-at n (at + 8) (omega arith), e)
 
-  pub numbers-at : (shape : Shape) → after shape ≤ length bytes → surfaceNumbers shape (drop 9 bytes) ≡ read (surfaceAt shape bytes) (drop (after shape) bytes)
+  pub numbers-at : (shape : Shape) → after shape ≤ length bytes → surfaceNumbers shape (drop headerSize bytes) ≡ read (surfaceAt shape bytes) (drop (after shape) bytes)
   unfolding surfaceNumbers surfaceAt _then_
   numbers-at shape h =
       let u = knots (shape .u) in
       let v = knots (shape .v) in
       let n = controls shape in
-      let e : 9 + 8 * u + 8 * v + 8 * (3 * n) + 8 * n ≡ after shape = omega arith in
-      simp (floats-at u 9 (omega arith), floats-at v (9 + 8 * u) (omega arith), floats-at (3 * n) (9 + 8 * u + 8 * v) (omega arith), floats-at n (9 + 8 * u + 8 * v + 8 * (3 * n)) (omega arith), e)
+      let e : headerSize + 8 * u + 8 * v + 8 * (3 * n) + 8 * n ≡ after shape = omega arith in
+      simp (floats-at u headerSize (omega arith), floats-at v (headerSize + 8 * u) (omega arith), floats-at (3 * n) (headerSize + 8 * u + 8 * v) (omega arith), floats-at n (headerSize + 8 * u + 8 * v + 8 * (3 * n)) (omega arith), e)
 
   module _ (at : ℕ) where
     e : at + 2 + 8 ≡ at + 10
@@ -56,14 +56,14 @@ module _ (bytes : List ℕ) where
     f : at + 10 + 8 ≡ at + 18
     f = omega arith
 
-    pub terms-at : at + 18 ≤ length bytes → terms (drop (at + 2) bytes) ≡ read (termsAt bytes at) (drop (at + 18) bytes)
+    pub terms-at : at + termsSize ≤ length bytes → terms (drop (at + 2) bytes) ≡ read (termsAt bytes at) (drop (at + termsSize) bytes)
     unfolding terms termsAt _then_
     terms-at h = simp (float-at (at + 2) (omega arith), e, number-at 8 (at + 10) (omega arith), f)
 
-    pub point-at : at + 26 ≤ length bytes → point (drop (at + 2) bytes) ≡ read (markAt bytes at) (drop (at + 26) bytes)
+    pub point-at : at + markSize ≤ length bytes → point (drop (at + 2) bytes) ≡ read (markAt bytes at) (drop (at + markSize) bytes)
     unfolding point markAt _then_
     point-at h =
-        let g : at + 18 + 8 ≡ at + 26 = omega arith in
+        let g : at + 18 + 8 ≡ at + markSize = omega arith in
         simp (float-at (at + 2) (omega arith), e, float-at (at + 10) (omega arith), f, float-at (at + 18) (omega arith), g)
 
   -- ---- floats that follow each other

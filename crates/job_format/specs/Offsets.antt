@@ -7,7 +7,7 @@ use Rattle.words.specs.Words.{littleEndian}
 use Rattle.vector3.specs.declared.Vector3.{Vector3}
 use Rattle.surface.specs.declared.Shape.{Shape}
 use Rattle.surface.specs.Surface.{Surface, surface}
-use Rattle.job_format.specs.Format.{Read, malformed, read, Terms, Job, knots, controls}
+use Rattle.job_format.specs.Format.{mostBytes, headerSize, termsSize, markSize, Read, malformed, read, Terms, Job, knots, controls}
 use Rattle.job_format.specs.declared.Layout.{Layout}
 use Rattle.job_format.specs.declared.Layout.the-variants.{Malformed, WellFormed}
 
@@ -23,14 +23,14 @@ abbrev pub count : Shape → ℕ
 count shape = knots (shape .u) + knots (shape .v) + 4 * controls shape
 
 abbrev pub after : Shape → ℕ
-after shape = 9 + 8 * count shape
+after shape = headerSize + 8 * count shape
 
 unfoldable pub surfaceAt : Shape → List ℕ → Surface
 surfaceAt shape bytes =
     let u = knots (shape .u) in
     let v = knots (shape .v) in
     let n = controls shape in
-    surface shape (floatsAt u bytes 9) (floatsAt v bytes (9 + 8 * u)) (floatsAt (3 * n) bytes (9 + 8 * u + 8 * v)) (floatsAt n bytes (9 + 8 * u + 8 * v + 8 * (3 * n)))
+    surface shape (floatsAt u bytes headerSize) (floatsAt v bytes (headerSize + 8 * u)) (floatsAt (3 * n) bytes (headerSize + 8 * u + 8 * v)) (floatsAt n bytes (headerSize + 8 * u + 8 * v + 8 * (3 * n)))
 
 -- the index of a record is that of its mark
 unfoldable pub termsAt : List ℕ → ℕ → Terms
@@ -41,11 +41,11 @@ markAt bytes at = record { x = floatAt bytes (at + 2); y = floatAt bytes (at + 1
 
 unfoldable pub marksAt : ℕ → List ℕ → ℕ → List Vector3
 marksAt zero bytes at = []
-marksAt (suc n) bytes at = markAt bytes at ∷ marksAt n bytes (at + 26)
+marksAt (suc n) bytes at = markAt bytes at ∷ marksAt n bytes (at + markSize)
 
 unfoldable pub jobAt : Shape → ℕ → List ℕ → Job
 jobAt shape n bytes =
-    record { surface = surfaceAt shape bytes; terms = termsAt bytes (after shape); marks = marksAt n bytes (after shape + 18) }
+    record { surface = surfaceAt shape bytes; terms = termsAt bytes (after shape); marks = marksAt n bytes (after shape + termsSize) }
 
 -- what a layout says of a file's bytes
 unfoldable pub told : Layout → List ℕ → Read Job
@@ -54,8 +54,8 @@ told (WellFormed shape n) bytes = read (jobAt shape n bytes) []
 
 -- a well-formed file of `size` bytes
 pub record Fits (size : ℕ) (shape : Shape) (n : ℕ) : Type 0 where
-  pub few : size ≤ 32768
-  pub whole : size ≡ after shape + 18 + 26 * n
+  pub few : size ≤ mostBytes
+  pub whole : size ≡ after shape + termsSize + markSize * n
 
 -- counts as a header holds them
 pub record Small (shape : Shape) : Type 0 where

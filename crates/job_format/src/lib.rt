@@ -10,10 +10,17 @@ ghost use mathlib.Core.Bool.{cond};
 ghost use mathlib.Core.List.{[], _∷_, _++_};
 ghost use Prim.Native.Nat.{_+_, _*_, _^_, _≤_, _<_};
 ghost use lib.ListN.{length, drop, getD};
-ghost use Rattle.job_format.specs.Format.{malformed, read, mark, counts, knots, controls, markRecords, afterHeader, parse};
+ghost use Rattle.job_format.specs.Format.{mostBytes, headerSize, markSize, malformed, read, mark, counts, knots, controls, markRecords, afterHeader, parse};
 ghost use Rattle.job_format.specs.Offsets.{Small, Laid, told, after, floatAt, floatsAt, markAt, marksAt};
 
 pub const MOST_BYTES: usize = 32_768;
+
+// What stands before the surface's numbers.
+pub const HEADER_SIZE: usize = 9;
+
+pub const TERMS_SIZE: usize = 18;
+
+pub const MARK_SIZE: usize = 26;
 
 pub enum Layout {
     Malformed,
@@ -28,7 +35,7 @@ pub fn layout_of(bytes: &[u8]) -> Layout
     if MOST_BYTES < bytes.len() {
         return Layout::Malformed;
     }
-    if bytes.len() < 9 {
+    if bytes.len() < HEADER_SIZE {
         return Layout::Malformed;
     }
     if !is_mark(bytes, 0, b'S', b'F') {
@@ -59,7 +66,7 @@ pub fn number_at(bytes: &[u8], at: usize) -> f64
 
 // The mark whose record starts at index `at`.
 pub fn mark_at(bytes: &[u8], at: usize) -> Vector3
-    requires { ⌜ at + 26 ≤ length (now bytes) ⌝ }
+    requires { ⌜ at + markSize ≤ length (now bytes) ⌝ }
     ensures { λ r. ⌜ r ≡ markAt (now (bytes .entry)) at ⌝ }
 {
     Vector3 {
@@ -93,35 +100,35 @@ fn numbers_end(shape: Shape) -> usize
 {
     let u = shape.u;
     let v = shape.v;
-    9 + 8 * (knots(u) + knots(v) + 4 * controls(shape))
+    HEADER_SIZE + 8 * (knots(u) + knots(v) + 4 * controls(shape))
 }
 
 fn after_header(bytes: &[u8], shape: Shape) -> Layout
-    requires { ⌜ (9 ≤ length (now bytes)) × (length (now bytes) ≤ 32768) × Small shape ⌝ }
-    ensures { λ r. ⌜ afterHeader shape (drop 9 (now (bytes .entry))) ≡ told r (now (bytes .entry)) ⌝ }
+    requires { ⌜ (headerSize ≤ length (now bytes)) × (length (now bytes) ≤ mostBytes) × Small shape ⌝ }
+    ensures { λ r. ⌜ afterHeader shape (drop headerSize (now (bytes .entry))) ≡ told r (now (bytes .entry)) ⌝ }
     ensures { λ r. ⌜ Laid (length (now (bytes .entry))) r ⌝ }
 {
     let at = numbers_end(shape);
-    if bytes.len() < at + 18 {
+    if bytes.len() < at + TERMS_SIZE {
         return Layout::Malformed;
     }
     if !is_mark(bytes, at, b'T', b'L') {
         return Layout::Malformed;
     }
-    let left = bytes.len() - (at + 18);
-    if left % 26 != 0 {
+    let left = bytes.len() - (at + TERMS_SIZE);
+    if left % MARK_SIZE != 0 {
         return Layout::Malformed;
     }
-    let marks = left / 26;
-    if !all_marks(bytes, at + 18, marks) {
+    let marks = left / MARK_SIZE;
+    if !all_marks(bytes, at + TERMS_SIZE, marks) {
         return Layout::Malformed;
     }
     Layout::WellFormed(shape, marks)
 }
 
 fn header_shape(bytes: &[u8]) -> Shape
-    requires { ⌜ (9 ≤ length (now bytes)) × (getD (now bytes) 8 0 ≤ 3) ⌝ }
-    ensures { λ r. ⌜ (counts (drop 2 (now (bytes .entry))) ≡ read r (drop 9 (now (bytes .entry)))) × Small r ⌝ }
+    requires { ⌜ (headerSize ≤ length (now bytes)) × (getD (now bytes) 8 0 ≤ 3) ⌝ }
+    ensures { λ r. ⌜ (counts (drop 2 (now (bytes .entry))) ≡ read r (drop headerSize (now (bytes .entry)))) × Small r ⌝ }
 {
     shape_of(
         wide(bytes[2]) as usize,
@@ -134,11 +141,11 @@ fn header_shape(bytes: &[u8]) -> Shape
 
 // Whether `marks` records of a mark follow each other from index `at` on.
 fn all_marks(bytes: &[u8], at: usize, marks: usize) -> bool
-    requires { ⌜ at + 26 * marks ≤ length (now bytes) ⌝ }
-    ensures { λ r. ⌜ markRecords marks (drop at (now (bytes .entry))) ≡ cond r (read (marksAt marks (now (bytes .entry)) at) (drop (at + 26 * marks) (now (bytes .entry)))) malformed ⌝ }
+    requires { ⌜ at + markSize * marks ≤ length (now bytes) ⌝ }
+    ensures { λ r. ⌜ markRecords marks (drop at (now (bytes .entry))) ≡ cond r (read (marksAt marks (now (bytes .entry)) at) (drop (at + markSize * marks) (now (bytes .entry)))) malformed ⌝ }
 {
     for i in 0..marks {
-        if !is_mark(bytes, at + 26 * i, b'M', b'K') {
+        if !is_mark(bytes, at + MARK_SIZE * i, b'M', b'K') {
             return false;
         }
     }

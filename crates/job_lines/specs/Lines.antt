@@ -4,6 +4,13 @@ use Prim.Native.Nat.{ℕ}
 use lib.Ieee.{Float, binary64, toBits}
 use Rattle.digits.specs.Text.{ascii, decimal, hex16}
 
+-- how long a line may be, the first line and any other
+abbrev pub longestFirst : ℕ
+longestFirst = 27
+
+abbrev pub longestLine : ℕ
+longestLine = 55
+
 -- marks in the file
 unfoldable pub marksLine : ℕ → List ℕ
 marksLine n = ascii "marks " ++ (decimal n ++ ascii "\n")

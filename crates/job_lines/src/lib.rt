@@ -8,12 +8,12 @@ ghost use Prim.Native.Nat.{_+_, _≤_};
 ghost use lib.ListN.{length};
 ghost use lib.Ieee.{isNan};
 ghost use Rattle.digits.specs.Text.{Put};
-ghost use Rattle.job_lines.specs.Lines.{marksLine, pairLine, refusedLine};
+ghost use Rattle.job_lines.specs.Lines.{longestFirst, longestLine, marksLine, pairLine, refusedLine};
 
 pub fn put_marks(out: &mut [u8], at: usize, marks: usize) -> usize
-    requires { ⌜ at + 27 ≤ length (now out) ⌝ }
+    requires { ⌜ at + longestFirst ≤ length (now out) ⌝ }
     ensures { λ r. ⌜ Put at (marksLine marks) (now (out .entry)) (now (out .exit)) r ⌝ }
-    ensures { λ r. ⌜ r ≤ at + 27 ⌝ }
+    ensures { λ r. ⌜ r ≤ at + longestFirst ⌝ }
 {
     let a = put(out, at, b"marks ");
     let b = put_decimal(out, a, marks as u64);
@@ -22,9 +22,9 @@ pub fn put_marks(out: &mut [u8], at: usize, marks: usize) -> usize
 
 // Of a pair that is no NaN.
 pub fn put_pair(out: &mut [u8], at: usize, u: f64, v: f64, left: u64) -> usize
-    requires { ⌜ (at + 55 ≤ length (now out)) × (isNan u ≡ false) × (isNan v ≡ false) ⌝ }
+    requires { ⌜ (at + longestLine ≤ length (now out)) × (isNan u ≡ false) × (isNan v ≡ false) ⌝ }
     ensures { λ r. ⌜ Put at (pairLine u v left) (now (out .entry)) (now (out .exit)) r ⌝ }
-    ensures { λ r. ⌜ r ≤ at + 55 ⌝ }
+    ensures { λ r. ⌜ r ≤ at + longestLine ⌝ }
 {
     let a = put_hex(out, at, f64::to_bits(u));
     let b = put(out, a, b" ");
@@ -35,9 +35,9 @@ pub fn put_pair(out: &mut [u8], at: usize, u: f64, v: f64, left: u64) -> usize
 }
 
 pub fn put_refusal(out: &mut [u8], at: usize, number: u64, index: usize) -> usize
-    requires { ⌜ at + 55 ≤ length (now out) ⌝ }
+    requires { ⌜ at + longestLine ≤ length (now out) ⌝ }
     ensures { λ r. ⌜ Put at (refusedLine number index) (now (out .entry)) (now (out .exit)) r ⌝ }
-    ensures { λ r. ⌜ r ≤ at + 55 ⌝ }
+    ensures { λ r. ⌜ r ≤ at + longestLine ⌝ }
 {
     let a = put(out, at, b"refused ");
     let b = put_decimal(out, a, number);

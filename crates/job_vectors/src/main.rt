@@ -13,6 +13,7 @@ use replay::one_answer;
 ghost use Prim.Native.Nat.{_*_, _/_, _≤_, _<_};
 ghost use lib.ListN.{length};
 ghost use Rattle.replay.specs.Cursors.{Within};
+ghost use Rattle.job.specs.Printout.{mostPrinted};
 
 // The call, as a record's first word names it.
 const JOB: u64 = 14;
@@ -120,13 +121,13 @@ fn is_printout(bytes: &[u8], size: usize, printed: u64, printout: &[u64]) -> boo
 
 fn print_file(bytes: &[u8], size: usize, out: &mut [u8; MOST_PRINTED]) -> usize
     requires { ⌜ size ≤ length (now bytes) ⌝ }
-    ensures { λ r. ⌜ r ≤ 69632 ⌝ }
+    ensures { λ r. ⌜ r ≤ mostPrinted ⌝ }
 {
     job::job(&bytes[..size], out)
 }
 
 fn shows(out: &[u8; MOST_PRINTED], n: usize, printout: &[u64]) -> bool
-    requires { ⌜ n ≤ 69632 ⌝ }
+    requires { ⌜ n ≤ mostPrinted ⌝ }
 {
     is_spelt(out, n, printout)
 }

@@ -4,6 +4,7 @@ use mathlib.Core.Bool.{Bool, true, _&&_, and-eq-true-iff}
 use Prim.Native.Nat.{ℕ, _≤_}
 use lib.Dec.{leb}
 use borrow.Author.Tests.{leb-true}
+use Rattle.job.specs.Printout.{mostPrinted}
 use Rattle.lent.specs.Lent.{soundFlags, soundOptions, roomy, roomyRow, roomyEdges, fitsJet, fitsInversion, fitsRow, fitsDerivative, fitsEdges, fitsJob}
 
 right : (a b : Bool) → (a && b) ≡ true → b ≡ true
@@ -38,6 +39,6 @@ pub edges-room : (flags collapsed edges : ℕ) {b : Bool} → b ≡ fitsEdges fl
 unfolding fitsEdges roomyEdges
 edges-room flags collapsed edges e h = both-least 4 20 collapsed edges (right (soundFlags flags) (roomyEdges collapsed edges) (sym e ∙ h))
 
-pub job-room : (printout written : ℕ) {b : Bool} → b ≡ fitsJob printout written → b ≡ true → (69632 ≤ printout) × (1 ≤ written)
+pub job-room : (printout written : ℕ) {b : Bool} → b ≡ fitsJob printout written → b ≡ true → (mostPrinted ≤ printout) × (1 ≤ written)
 unfolding fitsJob
-job-room printout written e h = both-least 69632 1 printout written (sym e ∙ h)
+job-room printout written e h = both-least mostPrinted 1 printout written (sym e ∙ h)

@@ -19,6 +19,7 @@ use Rattle.edges.specs.declared.Edge.{Edge}
 use Rattle.edges.specs.declared.Edge.the-variants.{Open, Collapsed}
 use Rattle.edges.specs.declared.Edges.{Edges}
 use Rattle.edges.specs.declared.Edges.the-variants as Edges
+use Rattle.job.specs.Printout.{mostPrinted}
 
 -- ---- what is read
 
@@ -73,7 +74,7 @@ fitsEdges flags collapsed edges = soundFlags flags && roomyEdges collapsed edges
 
 -- every printout fits, and its count is written
 unfoldable pub fitsJob : (printout written : ℕ) → Bool
-fitsJob printout written = leb 69632 printout && leb 1 written
+fitsJob printout written = leb mostPrinted printout && leb 1 written
 
 -- ---- an evaluation
 

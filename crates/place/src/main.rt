@@ -1,4 +1,5 @@
 // Reads a job file from standard input and writes its printout.
+use job_format::MOST_BYTES;
 use libc::EINTR;
 use libc::STDERR_FILENO;
 use libc::STDIN_FILENO;
@@ -12,7 +13,7 @@ ghost use Rattle.job.specs.Printout.{printout};
 ghost use Rattle.place.specs.Reads.{Onward, afterRead};
 
 // One byte more than a job file may have.
-const ROOM: usize = 32_769;
+const ROOM: usize = MOST_BYTES + 1;
 
 // What a read's answer makes of the bytes that are there.
 enum Input {

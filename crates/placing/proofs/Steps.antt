@@ -20,7 +20,7 @@ use Rattle.row.specs.Row.{Rowed, rowInto, written, numberOf, indexOf, leftOf}
 use Rattle.row.specs.RowLaws.{takenOf}
 use Rattle.edges.specs.declared.Edges.{Edges}
 use Rattle.edges.specs.Edges.{singular}
-use Rattle.job.specs.Printout.{printout}
+use Rattle.job.specs.Printout.{mostPrinted, printout}
 use Rattle.job.specs.PrintLaws.{front}
 use Rattle.lent.specs.Lent.{Evaluates, Places, Tells, Prints, jetInto, placingInto, firstOf, edgesInto, printoutInto}
 use Rattle.placing.specs.Boundary.{Rows, evaluatesIf, placesIf, rowsIf, tellsIf, printsIf}
@@ -118,7 +118,7 @@ pub job-unfit : (text xs ns : List ℕ) {b fit : Bool} → b ≡ fit → b ≡ f
 unfolding printsIf
 job-unfit text xs ns e h = rw (sym e ∙ h) refl
 
-pub job-fits : (file rest : List ℕ) {text : List ℕ} {n : ℕ} → (text ≡ printout file ++ rest) × ((n ≡ length (printout file)) × (n ≤ 69632)) → (xs ns : List ℕ) {b fit : Bool} → b ≡ fit → b ≡ true
+pub job-fits : (file rest : List ℕ) {text : List ℕ} {n : ℕ} → (text ≡ printout file ++ rest) × ((n ≡ length (printout file)) × (n ≤ mostPrinted)) → (xs ns : List ℕ) {b fit : Bool} → b ≡ fit → b ≡ true
     → {k : ℕ} {ys ms : List ℕ} → prints k ys ms ≡ printoutInto (take n text) xs ns → prints k ys ms ≡ printsIf fit (printout file) xs ns
 unfolding printsIf
 job-fits file rest p xs ns e h q = rw (sym e ∙ h) (q ∙ ap (λ t. printoutInto t xs ns) (front file rest p))

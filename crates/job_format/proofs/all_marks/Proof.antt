@@ -3,13 +3,14 @@ use mathlib.Core.Bool.{Bool, true, false}
 use Prim.Native.Nat.{_+_, _-_, _*_, _≤_}
 use native.Mathlib.Omega.{arith}
 use borrow.Author.Tests.{not-true, not-false}
+use Rattle.job_format.specs.Format.{markSize}
 use Rattle.job_format.proofs.Steps.{MarksRead, marks-begin, marks-over, marks-stop, marks-go}
 use borrow.Author.Needs.{needs}
 use Rattle.job_format.proofs.all_marks.Statement.{statement}
 use Rattle.job_format.proofs.all_marks.Tie as tie
 
 abbrev Inv-loop : tie.InvT-loop
-Inv-loop bytes at marks i₀ i = (i ≤ marks) × ((r : Bool) → MarksRead bytes (marks - i) (at + 26 * i) r → MarksRead bytes marks at r)
+Inv-loop bytes at marks i₀ i = (i ≤ marks) × ((r : Bool) → MarksRead bytes (marks - i) (at + markSize * i) r → MarksRead bytes marks at r)
 
 abbrev μ-loop : tie.MeasureT-loop
 μ-loop bytes at marks i₀ i = marks - i
