@@ -1,4 +1,4 @@
--- Text put after text, and how long numbers are. Assumes nothing.
+-- How many digits a number has, and text put after text. Assumes nothing.
 use mathlib.Core.Path.{_≡_, refl, sym, ap, _∙_}
 use mathlib.Core.Bool.{Bool, true, false, cond}
 use mathlib.Core.List.{List, [], _∷_, _++_, append-assoc}
@@ -10,32 +10,13 @@ use lib.Dec.{ltb}
 use lib.ListN.{length, take, drop, set, length-append, length-drop, take-append-drop}
 use lib.Seq.{take-set-le, length-take-le, take-at, drop-at, drop-drop, set-split}
 use borrow.Author.Tests.{ltb-false}
-use Rattle.digits.specs.Text.{Put, digit, digits, placesIn, decimal, hex16, written}
-
--- ---- lengths
+use Rattle.digits.specs.Text.{Put, digit, digits, placesIn, written}
 
 pub digits-length : (base k n : ℕ) → length (digits base k n) ≡ k
 unfolding digits
 digits-length base zero n = refl
 digits-length base (suc k) n =
     length-append (digits base k (n / base)) (digit (n % base) ∷ []) ∙ omega (arith, digits-length base k (n / base))
-
-pub places-most : (k n : ℕ) → placesIn k n ≤ k + 1
-unfolding placesIn
-places-most zero n = omega arith
-places-most (suc k) n = by (ltb n 10) (places-most k (n / 10))
-  where
-    by : (b : Bool) → placesIn k (n / 10) ≤ k + 1 → cond b 1 (suc (placesIn k (n / 10))) ≤ suc k + 1
-    by true h = omega arith
-    by false h = omega arith
-
-pub decimal-length : (n : ℕ) → length (decimal n) ≤ 20
-unfolding decimal
-decimal-length n = omega (arith, digits-length 10 (placesIn 19 n) n, places-most 19 n)
-
-pub hex-length : (n : ℕ) → length (hex16 n) ≡ 16
-unfolding hex16
-hex-length n = digits-length 16 16 n
 
 -- ---- no zero in front: no fewer digits would do
 

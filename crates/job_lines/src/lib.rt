@@ -15,9 +15,9 @@ pub fn put_marks(out: &mut [u8], at: usize, marks: usize) -> usize
     ensures { λ r. ⌜ Put at (marksLine marks) (now (out .entry)) (now (out .exit)) r ⌝ }
     ensures { λ r. ⌜ r ≤ at + longestFirst ⌝ }
 {
-    let a = put(out, at, b"marks ");
-    let b = put_decimal(out, a, marks as u64);
-    put(out, b, b"\n")
+    let after_word = put(out, at, b"marks ");
+    let after_count = put_decimal(out, after_word, marks as u64);
+    put(out, after_count, b"\n")
 }
 
 // Of a pair that is no NaN.
@@ -26,12 +26,12 @@ pub fn put_pair(out: &mut [u8], at: usize, u: f64, v: f64, left: u64) -> usize
     ensures { λ r. ⌜ Put at (pairLine u v left) (now (out .entry)) (now (out .exit)) r ⌝ }
     ensures { λ r. ⌜ r ≤ at + longestLine ⌝ }
 {
-    let a = put_hex(out, at, f64::to_bits(u));
-    let b = put(out, a, b" ");
-    let c = put_hex(out, b, f64::to_bits(v));
-    let d = put(out, c, b" ");
-    let e = put_decimal(out, d, left);
-    put(out, e, b"\n")
+    let after_u = put_hex(out, at, f64::to_bits(u));
+    let before_v = put(out, after_u, b" ");
+    let after_v = put_hex(out, before_v, f64::to_bits(v));
+    let before_left = put(out, after_v, b" ");
+    let after_left = put_decimal(out, before_left, left);
+    put(out, after_left, b"\n")
 }
 
 pub fn put_refusal(out: &mut [u8], at: usize, number: u64, index: usize) -> usize
@@ -39,9 +39,9 @@ pub fn put_refusal(out: &mut [u8], at: usize, number: u64, index: usize) -> usiz
     ensures { λ r. ⌜ Put at (refusedLine number index) (now (out .entry)) (now (out .exit)) r ⌝ }
     ensures { λ r. ⌜ r ≤ at + longestLine ⌝ }
 {
-    let a = put(out, at, b"refused ");
-    let b = put_decimal(out, a, number);
-    let c = put(out, b, b" at ");
-    let d = put_decimal(out, c, index as u64);
-    put(out, d, b"\n")
+    let after_word = put(out, at, b"refused ");
+    let after_number = put_decimal(out, after_word, number);
+    let before_index = put(out, after_number, b" at ");
+    let after_index = put_decimal(out, before_index, index as u64);
+    put(out, after_index, b"\n")
 }
