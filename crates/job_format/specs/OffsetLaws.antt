@@ -16,7 +16,7 @@ use Rattle.job_format.specs.Format.{headerSize, termsSize, markSize, rea
 use Rattle.job_format.specs.Offsets.{floatAt, floatsAt, after, surfaceAt, termsAt, markAt}
 
 module _ (bytes : List ℕ) where
-  from-front : (k at : ℕ) → littleEndian k (drop at bytes) 0 ≡ littleEndian k bytes at
+  pub from-front : (k at : ℕ) → littleEndian k (drop at bytes) 0 ≡ littleEndian k bytes at
   unfolding littleEndian
   from-front zero at = refl
   from-front (suc k) at =

@@ -1,0 +1,160 @@
+-- A job that is parsed is what stands at the offsets, so they are no second format. Assumes nothing.
+use mathlib.Core.Path.{_≡_, refl, sym, ap, _∙_}
+use mathlib.Core.Bool.{Bool, true, false, cond}
+use mathlib.Core.List.{List, [], _∷_}
+use Prim.Native.Nat.{ℕ, zero, suc, _+_, _*_, _/_}
+use native.Mathlib.Nat.{add-zero, add-assoc}
+use native.Mathlib.Omega.{arith}
+use lib.Dec.{leb, eqb}
+use lib.ListN.{length, drop}
+use lib.Seq.{drop-drop}
+use Rattle.words.specs.Words.{littleEndian}
+use Rattle.digits.specs.Text.{ascii}
+use Rattle.surface.specs.declared.Shape.{Shape}
+use Rattle.surface.specs.Flags.{shapeOf}
+use Rattle.job_format.specs.Format.{mostBytes, headerSize, termsSize, markSize, Read, malformed, read, _then_, mark, number, float, floats, flags, counts, header, knots, controls, surfaceNumbers, terms, termsRecord, point, markRecord, markRecords, Job, ended, toTheEnd, afterHeader, parse}
+use Rattle.job_format.specs.Offsets.{floatAt, floatsAt, count, after, surfaceAt, termsAt, markAt, marksAt, jobAt}
+use Rattle.job_format.specs.OffsetLaws.{from-front}
+
+never : {A : Type 0} (a : A) (rest : List ℕ) → malformed ≡ read a rest → ⊥
+never a rest e = let z : _≡_ {A = ℕ} 0 1 = cc in omega arith
+
+module _ (bytes : List ℕ) where
+  -- where a piece of k bytes is read at an index, it is v
+  record Stands {A : Type 0} (at k : ℕ) (p : List ℕ → Read A) (v : A) : Type 0 where
+    as-read : (a : A) (rest : List ℕ) → p (drop at bytes) ≡ read a rest → (a ≡ v) × (rest ≡ drop (at + k) bytes)
+
+  stands-read : {A : Type 0} {at : ℕ} {v : A} → Stands at 0 (read v) v
+  stands-read {A} {at} {v} = record { as-read = λ a rest e. (cc, simp add-zero (cc)) }
+
+  stands-then : {A B : Type 0} {at j k : ℕ} {p : List ℕ → Read A} (f : A → List ℕ → Read B) {v : A} {w : B}
+      → Stands at j p v → Stands (at + j) k (f v) w → Stands at (j + k) (λ xs. p xs then f) w
+  unfolding _then_
+  stands-then {A} {B} {at} {j} {k} {p} f {v} {w} sp sf = record { as-read = λ b rest e. by b rest (p (drop at bytes)) refl e }
+    where
+      by : (b : B) (rest : List ℕ) (r : Read A) → p (drop at bytes) ≡ r → (r then f) ≡ read b rest → (b ≡ w) × (rest ≡ drop (at + (j + k)) bytes)
+      by b rest malformed q e = absurd (never b rest e)
+      by b rest (read a mid) q e =
+          let s = sp .as-read a mid q in
+          let t = sf .as-read b rest (rw (s .0, s .1) at e) in
+          (t .0, t .1 ∙ simp add-assoc)
+
+  stands-as : {A : Type 0} {at j k : ℕ} {p : List ℕ → Read A} {v : A} → Stands at j p v → j ≡ k → Stands at k p v
+  stands-as s e = rw (← e) s
+
+  stands-if : {A : Type 0} {at k : ℕ} {p : List ℕ → Read A} {v : A} (t : Bool) → Stands at k p v → Stands at k (λ xs. cond t (p xs) malformed) v
+  stands-if true s = s
+  stands-if false s = record { as-read = λ a rest e. absurd (never a rest e) }
+
+  number-stands : (k at : ℕ) → Stands at k (number k) (littleEndian k bytes at)
+  unfolding number
+  number-stands k at = record { as-read = λ a rest e. by a rest (leb k (length (drop at bytes))) e }
+    where
+      by : (a : ℕ) (rest : List ℕ) (t : Bool) → cond t (read (littleEndian k (drop at bytes) 0) (drop k (drop at bytes))) malformed ≡ read a rest
+          → (a ≡ littleEndian k bytes at) × (rest ≡ drop (at + k) bytes)
+      by a rest true e = (cc (from-front bytes k at), cc (drop-drop k at bytes))
+      by a rest false e = absurd (never a rest e)
+
+  mark-stands : (ms : List ℕ) (at : ℕ) → Stands at (length ms) (mark ms) tt
+  unfolding mark
+  mark-stands ms at = record { as-read = λ a rest e. (refl, by ms (drop at bytes) rest e ∙ drop-drop (length ms) at bytes) }
+    where
+      by : (ms xs rest : List ℕ) → mark ms xs ≡ read tt rest → rest ≡ drop (length ms) xs
+      by [] xs rest e = cc
+      by (m ∷ ms) [] rest e = absurd (never tt rest e)
+      by (m ∷ ms) (x ∷ xs) rest e = on (eqb x m) e (by ms xs rest)
+        where
+          on : (t : Bool) → cond t (mark ms xs) malformed ≡ read tt rest → (mark ms xs ≡ read tt rest → rest ≡ drop (length ms) xs) → rest ≡ drop (length ms) xs
+          on true e more = more e
+          on false e more = absurd (never tt rest e)
+
+  float-stands : (at : ℕ) → Stands at 8 float (floatAt bytes at)
+  unfolding float floatAt
+  float-stands at = stands-then _ (number-stands 8 at) stands-read
+
+  floats-stand : (n at : ℕ) → Stands at (8 * n) (floats n) (floatsAt n bytes at)
+  unfolding floats floatsAt
+  floats-stand zero at = stands-read
+  floats-stand (suc n) at = stands-as (stands-then _ (float-stands at) (stands-then _ (floats-stand n (at + 8)) stands-read)) (omega arith)
+
+  -- ---- the header
+
+  flags-stand : (at : ℕ) → Stands at 1 flags (littleEndian 1 bytes at)
+  unfolding flags
+  flags-stand at = stands-then _ (number-stands 1 at) (stands-if (leb (littleEndian 1 bytes at) 3) stands-read)
+
+  abbrev shapeHere : Shape
+  shapeHere = shapeOf (littleEndian 1 bytes 2) (littleEndian 1 bytes 3) (littleEndian 2 bytes 4) (littleEndian 2 bytes 6) (littleEndian 1 bytes 8)
+
+  header-stands : Stands 0 headerSize header shapeHere
+  unfolding header counts ascii
+  header-stands =
+      stands-then _ (mark-stands (ascii "SF") 0) (stands-then _ (number-stands 1 2) (stands-then _ (number-stands 1 3) (stands-then _ (number-stands 2 4) (stands-then _ (number-stands 2 6) (stands-then _ (flags-stand 8) stands-read)))))
+
+  -- ---- what follows it
+
+  surface-stands : (shape : Shape) → Stands headerSize (8 * count shape) (surfaceNumbers shape) (surfaceAt shape bytes)
+  unfolding surfaceNumbers surfaceAt
+  surface-stands shape =
+      let u = knots (shape .u) in
+      let v = knots (shape .v) in
+      let n = controls shape in
+      stands-as
+      (stands-then _ (floats-stand u headerSize) (stands-then _ (floats-stand v (headerSize + 8 * u)) (stands-then _ (floats-stand (3 * n) (headerSize + 8 * u + 8 * v)) (stands-then _ (floats-stand n (headerSize + 8 * u + 8 * v + 8 * (3 * n))) stands-read))))
+      (omega arith)
+
+  module _ (at : ℕ) where
+    second : at + 2 + 8 ≡ at + 10
+    second = omega arith
+
+    third : at + 2 + 8 + 8 ≡ at + 18
+    third = omega arith
+
+    terms-stand : Stands at termsSize termsRecord (termsAt bytes at)
+    unfolding termsRecord terms termsAt ascii
+    terms-stand = rw (← second) (stands-then _ (mark-stands (ascii "TL") at) (stands-then _ (float-stands (at + 2)) (stands-then _ (number-stands 8 (at + 2 + 8)) stands-read)))
+
+    mark-record-stands : Stands at markSize markRecord (markAt bytes at)
+    unfolding markRecord point markAt ascii
+    mark-record-stands =
+        rw (← third, ← second) (stands-then _ (mark-stands (ascii "MK") at) (stands-then _ (float-stands (at + 2)) (stands-then _ (float-stands (at + 2 + 8)) (stands-then _ (float-stands (at + 2 + 8 + 8)) stands-read))))
+
+  marks-stand : (n at : ℕ) → Stands at (markSize * n) (markRecords n) (marksAt n bytes at)
+  unfolding markRecords marksAt
+  marks-stand zero at = stands-read
+  marks-stand (suc n) at = stands-as (stands-then _ (mark-record-stands at) (stands-then _ (marks-stand n (at + markSize)) stands-read)) (omega arith)
+
+  abbrev room : ℕ → ℕ
+  room at = length (drop at bytes) / markSize
+
+  end-stands : (at : ℕ) → Stands at (markSize * room at) toTheEnd (marksAt (room at) bytes at)
+  unfolding toTheEnd ended _then_
+  end-stands at = record { as-read = λ ps rest e. by ps rest (markRecords (room at) (drop at bytes)) refl e }
+    where
+      by : (ps : _) (rest : List ℕ) (r : Read _) → markRecords (room at) (drop at bytes) ≡ r → (r then ended) ≡ read ps rest → (ps ≡ marksAt (room at) bytes at) × (rest ≡ drop (at + markSize * room at) bytes)
+      by ps rest malformed q e = absurd (never ps rest e)
+      by ps rest (read a []) q e = marks-stand (room at) at .as-read ps rest (q ∙ e)
+      by ps rest (read a (x ∷ xs)) q e = absurd (never ps rest e)
+
+  after-stands : (shape : Shape) → Stands headerSize (8 * count shape + (termsSize + markSize * room (after shape + termsSize))) (afterHeader shape) (jobAt shape (room (after shape + termsSize)) bytes)
+  unfolding afterHeader jobAt
+  after-stands shape = stands-as (stands-then _ (surface-stands shape) (stands-then _ (terms-stand (after shape)) (stands-then _ (end-stands (after shape + termsSize)) stands-read))) (omega arith)
+
+  -- ---- the file
+
+  marks-length : (n at : ℕ) → length (marksAt n bytes at) ≡ n
+  unfolding marksAt
+  marks-length zero at = refl
+  marks-length (suc n) at = ap suc (marks-length n (at + markSize))
+
+  pub parsed-stands : (job : Job) (rest : List ℕ) → parse bytes ≡ read job rest → job ≡ jobAt (job .surface .shape) (length (job .marks)) bytes
+  unfolding parse jobAt surfaceAt
+  parsed-stands job rest e = by (leb (length bytes) mostBytes) e
+    where
+      by : (t : Bool) → cond t (header bytes then afterHeader) malformed ≡ read job rest → job ≡ jobAt (job .surface .shape) (length (job .marks)) bytes
+      by true e =
+          let q = stands-then afterHeader header-stands (after-stands shapeHere) .as-read job rest e .0 in
+          let s : job .surface .shape ≡ shapeHere = ap (λ (j : Job). j .surface .shape) q in
+          let n : length (job .marks) ≡ room (after shapeHere + termsSize) = ap (λ (j : Job). length (j .marks)) q ∙ marks-length _ _ in
+          q ∙ ap (λ (shape : Shape). jobAt shape (room (after shapeHere + termsSize)) bytes) (sym s) ∙ ap (λ (k : ℕ). jobAt (job .surface .shape) k bytes) (sym n)
+      by false e = absurd (never job rest e)
