@@ -1,5 +1,5 @@
 -- The steps of the loops, and what each test of a file says of it, over plain values. Assumes nothing.
-use mathlib.Core.Path.{_≡_, refl, sym, ap, _∙_}
+use mathlib.Core.Path.{_≡_, sym, ap, _∙_}
 use mathlib.Core.Bool.{Bool, true, false, cond}
 use mathlib.Core.List.{List, [], _∷_, _++_, append-assoc}
 use Prim.Native.Nat.{ℕ, suc, _+_, _-_, _*_, _/_, _%_, _^_, _≤_, _<_}
@@ -13,10 +13,11 @@ use borrow.Author.Tests.{le-leb}
 use Rattle.digits.specs.Text.{ascii}
 use Rattle.surface.specs.declared.Shape.{Shape}
 use Rattle.surface.specs.Flags.{shapeOf}
-use Rattle.job_format.specs.Format.{mostBytes, headerSize, termsSize, markSize, Read, malformed, read, _then_, mark, counts, header, surfaceNumbers, termsRecord, markRecord, markRecords, ended, toTheEnd, afterHeader, parse}
-use Rattle.job_format.specs.Offsets.{Small, floatAt, floatsAt, count, after, surfaceAt, termsAt, marksAt, jobAt}
+use Rattle.job_format.specs.Format.{mostBytes, headerSize, termsSize, markSize, Read, malformed, read, _then_, mark, counts, header, termsRecord, markRecord, markRecords, ended, toTheEnd, afterHeader, parse}
+use Rattle.job_format.specs.Offsets.{Small, floatAt, floatsAt, after, surfaceAt, termsAt, marksAt, jobAt}
 use Rattle.job_format.specs.OffsetLaws.{floats-length, floats-split, numbers-at, terms-at, point-at}
-use Rattle.job_format.proofs.Pieces.{Takes, short, takes-header, takes-numbers, takes-terms, left-over, other-flags}
+use Rattle.job_format.specs.ParseLaws.{short, header-stands, left-over, after-stands}
+use Rattle.job_format.proofs.Pieces.{other-flags}
 
 -- ---- numbers
 
@@ -90,26 +91,13 @@ module _ {du dv nu nv : ℕ} (hdu : du < 2 ^ 8) (hdv : dv < 2 ^ 8) (hnu : nu < 2
 
 -- ---- what follows the header
 
-short-second : {A B C : Type 0} (j k : ℕ) (p : List ℕ → Read A) (f : A → List ℕ → Read B) (g : A → B → List ℕ → Read C)
-    → Takes j p → ((a : A) → Takes k (f a)) → (bytes : List ℕ) → length bytes < j + k → (p bytes then λ a rest. f a rest then g a) ≡ malformed
-unfolding _then_
-short-second {A} j k p f g tp tf bytes h = by (p bytes) refl
-  where
-    by : (r : Read A) → p bytes ≡ r → (r then λ a rest. f a rest then g a) ≡ malformed
-    by malformed e = refl
-    by (read a mid) e = simp (short k (f a) (tf a) mid (omega (arith, tp bytes a mid e)))
-
 when-none : {A B : Type 0} (p : Read A) (f : A → List ℕ → Read B) → p ≡ malformed → (p then f) ≡ malformed
 unfolding _then_
 when-none p f e = simp e
 
 module _ (bytes : List ℕ) (shape : Shape) (at : ℕ) (e : at ≡ after shape) (least : headerSize ≤ length bytes) where
   pub cut-off : length bytes < at + termsSize → afterHeader shape (drop headerSize bytes) ≡ malformed
-  unfolding afterHeader
-  cut-off h =
-      short-second (8 * count shape) termsSize (surfaceNumbers shape) (λ s. termsRecord)
-      (λ s t rest. toTheEnd rest then λ ps rest. read (record { surface = s; terms = t; marks = ps }) rest)
-      (takes-numbers shape) (λ s. takes-terms) (drop headerSize bytes) (omega (arith, length-drop headerSize bytes))
+  cut-off h = short bytes (after-stands bytes shape) least (omega arith)
 
   module _ (long : at + termsSize ≤ length bytes) (t : Bool) (m : MarkRead bytes 84 76 at t) where
     pub no-terms : t ≡ false → afterHeader shape (drop headerSize bytes) ≡ malformed
@@ -126,7 +114,7 @@ module _ (bytes : List ℕ) (shape : Shape) (at : ℕ) (e : at ≡ after shape) 
       left = length bytes - (at + termsSize)
 
       pub bytes-left : (left % markSize ≡ 0 → ⊥) → afterHeader shape (drop headerSize bytes) ≡ malformed
-      bytes-left z = marks-found ∙ when-none _ _ (left-over (drop (at + termsSize) bytes) (rw (length-drop (at + termsSize) bytes) z))
+      bytes-left z = marks-found ∙ when-none _ _ (left-over bytes (at + termsSize) long z)
 
       module _ (n : ℕ) (n-is : n ≡ left / markSize) (z : left % markSize ≡ 0) (r : Bool) (p : MarksRead bytes n (at + termsSize) r) where
         end-found : (b : Bool) → r ≡ b → toTheEnd (drop (at + termsSize) bytes) ≡ cond b (read (marksAt n bytes (at + termsSize)) []) malformed
@@ -152,7 +140,7 @@ module _ (bytes : List ℕ) where
     headless e = simp (le-leb (length bytes) mostBytes few, e)
 
     pub no-header : length bytes < headerSize → parse bytes ≡ malformed
-    no-header h = headless (short headerSize header takes-header bytes h)
+    no-header h = headless (short bytes (header-stands bytes) (omega arith) h)
 
     module _ (least : headerSize ≤ length bytes) (t : Bool) (m : MarkRead bytes 83 70 0 t) where
       pub no-surface : t ≡ false → parse bytes ≡ malformed

@@ -1,4 +1,4 @@
--- Where the pieces of a well-formed file stand, for contracts of code that reads by index. The format itself is `parse` of `Format.antt`, and `OffsetLaws.antt` proves that each piece read at its place is what is named here. Definitions only.
+-- Where the pieces of a well-formed file stand, for contracts of code that reads by index. The format is `parse` of `Format.antt` alone: each piece read at its place is what is named here (`OffsetLaws.antt`), and so is a job that is parsed (`parsed-stands` of `ParseLaws.antt`). Definitions only.
 use mathlib.Core.Path.{_≡_}
 use mathlib.Core.List.{List, [], _∷_}
 use Prim.Native.Nat.{ℕ, zero, suc, _+_, _*_, _≤_, _<_}

@@ -1,15 +1,17 @@
--- A job that is parsed is what stands at the offsets, so they are no second format. Assumes nothing.
+-- A job that is parsed is what stands at the offsets, so they are no second format; and a file that ends before its pieces do is malformed. Assumes nothing.
 use mathlib.Core.Path.{_≡_, refl, sym, ap, _∙_}
 use mathlib.Core.Bool.{Bool, true, false, cond}
 use mathlib.Core.List.{List, [], _∷_}
-use Prim.Native.Nat.{ℕ, zero, suc, _+_, _*_, _/_}
+use Prim.Native.Nat.{ℕ, zero, suc, _+_, _-_, _*_, _/_, _%_, _≤_, _<_}
 use native.Mathlib.Nat.{add-zero, add-assoc}
 use native.Mathlib.Omega.{arith}
 use lib.Dec.{leb, eqb}
-use lib.ListN.{length, drop}
+use lib.ListN.{length, drop, length-drop}
 use lib.Seq.{drop-drop}
+use borrow.Author.Tests.{leb-true}
 use Rattle.words.specs.Words.{littleEndian}
 use Rattle.digits.specs.Text.{ascii}
+use Rattle.vector3.specs.declared.Vector3.{Vector3}
 use Rattle.surface.specs.declared.Shape.{Shape}
 use Rattle.surface.specs.Flags.{shapeOf}
 use Rattle.job_format.specs.Format.{mostBytes, headerSize, termsSize, markSize, Read, malformed, read, _then_, mark, number, float, floats, flags, counts, header, knots, controls, surfaceNumbers, terms, termsRecord, point, markRecord, markRecords, Job, ended, toTheEnd, afterHeader, parse}
@@ -20,52 +22,67 @@ never : {A : Type 0} (a : A) (rest : List ℕ) → malformed ≡ read a rest →
 never a rest e = let z : _≡_ {A = ℕ} 0 1 = cc in omega arith
 
 module _ (bytes : List ℕ) where
-  -- where a piece of k bytes is read at an index, it is v
-  record Stands {A : Type 0} (at k : ℕ) (p : List ℕ → Read A) (v : A) : Type 0 where
-    as-read : (a : A) (rest : List ℕ) → p (drop at bytes) ≡ read a rest → (a ≡ v) × (rest ≡ drop (at + k) bytes)
+  -- a piece that is read at an index has k bytes there, and it is v
+  pub record Stands {A : Type 0} (at k : ℕ) (p : List ℕ → Read A) (v : A) : Type 0 where
+    pub as-read : (a : A) (rest : List ℕ) → p (drop at bytes) ≡ read a rest → at ≤ length bytes → (a ≡ v) × (rest ≡ drop (at + k) bytes) × (at + k ≤ length bytes)
+
+  -- so where bytes are too few it is malformed
+  pub short : {A : Type 0} {at k : ℕ} {p : List ℕ → Read A} {v : A} → Stands at k p v → at ≤ length bytes → length bytes < at + k → p (drop at bytes) ≡ malformed
+  short {A} {at} {k} {p} {v} s h few = by (p (drop at bytes)) refl
+    where
+      by : (r : Read A) → p (drop at bytes) ≡ r → p (drop at bytes) ≡ malformed
+      by malformed e = e
+      by (read a rest) e = absurd (omega (arith, s .as-read a rest e h .2))
+
+  -- ---- pieces of every kind
 
   stands-read : {A : Type 0} {at : ℕ} {v : A} → Stands at 0 (read v) v
-  stands-read {A} {at} {v} = record { as-read = λ a rest e. (cc, simp add-zero (cc)) }
+  stands-read {A} {at} {v} = record { as-read = λ a rest e h. (cc, simp add-zero (cc), omega arith) }
 
   stands-then : {A B : Type 0} {at j k : ℕ} {p : List ℕ → Read A} (f : A → List ℕ → Read B) {v : A} {w : B}
       → Stands at j p v → Stands (at + j) k (f v) w → Stands at (j + k) (λ xs. p xs then f) w
   unfolding _then_
-  stands-then {A} {B} {at} {j} {k} {p} f {v} {w} sp sf = record { as-read = λ b rest e. by b rest (p (drop at bytes)) refl e }
+  stands-then {A} {B} {at} {j} {k} {p} f {v} {w} sp sf = record { as-read = λ b rest e h. by b rest (p (drop at bytes)) refl e h }
     where
-      by : (b : B) (rest : List ℕ) (r : Read A) → p (drop at bytes) ≡ r → (r then f) ≡ read b rest → (b ≡ w) × (rest ≡ drop (at + (j + k)) bytes)
-      by b rest malformed q e = absurd (never b rest e)
-      by b rest (read a mid) q e =
-          let s = sp .as-read a mid q in
-          let t = sf .as-read b rest (rw (s .0, s .1) at e) in
-          (t .0, t .1 ∙ simp add-assoc)
+      by : (b : B) (rest : List ℕ) (r : Read A) → p (drop at bytes) ≡ r → (r then f) ≡ read b rest → at ≤ length bytes → (b ≡ w) × (rest ≡ drop (at + (j + k)) bytes) × (at + (j + k) ≤ length bytes)
+      by b rest malformed q e h = absurd (never b rest e)
+      by b rest (read a mid) q e h =
+          let s = sp .as-read a mid q h in
+          let t = sf .as-read b rest (rw (s .0, s .1) at e) (s .2) in
+          (t .0, t .1 ∙ simp add-assoc, omega (arith, t .2))
 
   stands-as : {A : Type 0} {at j k : ℕ} {p : List ℕ → Read A} {v : A} → Stands at j p v → j ≡ k → Stands at k p v
   stands-as s e = rw (← e) s
 
   stands-if : {A : Type 0} {at k : ℕ} {p : List ℕ → Read A} {v : A} (t : Bool) → Stands at k p v → Stands at k (λ xs. cond t (p xs) malformed) v
   stands-if true s = s
-  stands-if false s = record { as-read = λ a rest e. absurd (never a rest e) }
+  stands-if false s = record { as-read = λ a rest e h. absurd (never a rest e) }
 
   number-stands : (k at : ℕ) → Stands at k (number k) (littleEndian k bytes at)
   unfolding number
-  number-stands k at = record { as-read = λ a rest e. by a rest (leb k (length (drop at bytes))) e }
+  number-stands k at = record { as-read = λ a rest e h. by a rest (leb k (length (drop at bytes))) refl e h }
     where
-      by : (a : ℕ) (rest : List ℕ) (t : Bool) → cond t (read (littleEndian k (drop at bytes) 0) (drop k (drop at bytes))) malformed ≡ read a rest
-          → (a ≡ littleEndian k bytes at) × (rest ≡ drop (at + k) bytes)
-      by a rest true e = (cc (from-front bytes k at), cc (drop-drop k at bytes))
-      by a rest false e = absurd (never a rest e)
+      by : (a : ℕ) (rest : List ℕ) (t : Bool) → leb k (length (drop at bytes)) ≡ t → cond t (read (littleEndian k (drop at bytes) 0) (drop k (drop at bytes))) malformed ≡ read a rest
+          → at ≤ length bytes → (a ≡ littleEndian k bytes at) × (rest ≡ drop (at + k) bytes) × (at + k ≤ length bytes)
+      by a rest true q e h =
+          (cc (from-front bytes k at), cc (drop-drop k at bytes), omega (arith, leb-true k (length (drop at bytes)) q, length-drop at bytes))
+      by a rest false q e h = absurd (never a rest e)
 
   mark-stands : (ms : List ℕ) (at : ℕ) → Stands at (length ms) (mark ms) tt
   unfolding mark
-  mark-stands ms at = record { as-read = λ a rest e. (refl, by ms (drop at bytes) rest e ∙ drop-drop (length ms) at bytes) }
+  mark-stands ms at =
+      record {
+        as-read = λ a rest e h. let r = by ms (drop at bytes) rest e in
+            (refl, r .0 ∙ drop-drop (length ms) at bytes, omega (arith, r .1, length-drop at bytes));
+      }
     where
-      by : (ms xs rest : List ℕ) → mark ms xs ≡ read tt rest → rest ≡ drop (length ms) xs
-      by [] xs rest e = cc
+      by : (ms xs rest : List ℕ) → mark ms xs ≡ read tt rest → (rest ≡ drop (length ms) xs) × (length ms ≤ length xs)
+      by [] xs rest e = (cc, omega arith)
       by (m ∷ ms) [] rest e = absurd (never tt rest e)
       by (m ∷ ms) (x ∷ xs) rest e = on (eqb x m) e (by ms xs rest)
         where
-          on : (t : Bool) → cond t (mark ms xs) malformed ≡ read tt rest → (mark ms xs ≡ read tt rest → rest ≡ drop (length ms) xs) → rest ≡ drop (length ms) xs
-          on true e more = more e
+          on : (t : Bool) → cond t (mark ms xs) malformed ≡ read tt rest → (mark ms xs ≡ read tt rest → (rest ≡ drop (length ms) xs) × (length ms ≤ length xs)) → (rest ≡ drop (length ms) xs) × (suc (length ms) ≤ suc (length xs))
+          on true e more = (more e .0, omega (arith, more e .1))
           on false e more = absurd (never tt rest e)
 
   float-stands : (at : ℕ) → Stands at 8 float (floatAt bytes at)
@@ -86,7 +103,7 @@ module _ (bytes : List ℕ) where
   abbrev shapeHere : Shape
   shapeHere = shapeOf (littleEndian 1 bytes 2) (littleEndian 1 bytes 3) (littleEndian 2 bytes 4) (littleEndian 2 bytes 6) (littleEndian 1 bytes 8)
 
-  header-stands : Stands 0 headerSize header shapeHere
+  pub header-stands : Stands 0 headerSize header shapeHere
   unfolding header counts ascii
   header-stands =
       stands-then _ (mark-stands (ascii "SF") 0) (stands-then _ (number-stands 1 2) (stands-then _ (number-stands 1 3) (stands-then _ (number-stands 2 4) (stands-then _ (number-stands 2 6) (stands-then _ (flags-stand 8) stands-read)))))
@@ -129,14 +146,24 @@ module _ (bytes : List ℕ) where
 
   end-stands : (at : ℕ) → Stands at (markSize * room at) toTheEnd (marksAt (room at) bytes at)
   unfolding toTheEnd ended _then_
-  end-stands at = record { as-read = λ ps rest e. by ps rest (markRecords (room at) (drop at bytes)) refl e }
+  end-stands at = record { as-read = λ ps rest e h. by ps rest (markRecords (room at) (drop at bytes)) refl e h }
     where
-      by : (ps : _) (rest : List ℕ) (r : Read _) → markRecords (room at) (drop at bytes) ≡ r → (r then ended) ≡ read ps rest → (ps ≡ marksAt (room at) bytes at) × (rest ≡ drop (at + markSize * room at) bytes)
-      by ps rest malformed q e = absurd (never ps rest e)
-      by ps rest (read a []) q e = marks-stand (room at) at .as-read ps rest (q ∙ e)
-      by ps rest (read a (x ∷ xs)) q e = absurd (never ps rest e)
+      by : (ps : List Vector3) (rest : List ℕ) (r : Read (List Vector3)) → markRecords (room at) (drop at bytes) ≡ r → (r then ended) ≡ read ps rest
+          → at ≤ length bytes → (ps ≡ marksAt (room at) bytes at) × (rest ≡ drop (at + markSize * room at) bytes) × (at + markSize * room at ≤ length bytes)
+      by ps rest malformed q e h = absurd (never ps rest e)
+      by ps rest (read a []) q e h = marks-stand (room at) at .as-read ps rest (q ∙ e) h
+      by ps rest (read a (x ∷ xs)) q e h = absurd (never ps rest e)
 
-  after-stands : (shape : Shape) → Stands headerSize (8 * count shape + (termsSize + markSize * room (after shape + termsSize))) (afterHeader shape) (jobAt shape (room (after shape + termsSize)) bytes)
+  pub left-over : (at : ℕ) → at ≤ length bytes → ((length bytes - at) % markSize ≡ 0 → ⊥) → toTheEnd (drop at bytes) ≡ malformed
+  unfolding toTheEnd ended _then_
+  left-over at h z = by (markRecords (room at) (drop at bytes)) refl
+    where
+      by : (r : Read (List Vector3)) → markRecords (room at) (drop at bytes) ≡ r → (r then ended) ≡ malformed
+      by malformed q = refl
+      by (read ps []) q = absurd (z (omega (arith, length-drop at bytes, length-drop (at + markSize * room at) bytes, ap length (marks-stand (room at) at .as-read ps [] q h .1))))
+      by (read ps (x ∷ xs)) q = refl
+
+  pub after-stands : (shape : Shape) → Stands headerSize (8 * count shape + (termsSize + markSize * room (after shape + termsSize))) (afterHeader shape) (jobAt shape (room (after shape + termsSize)) bytes)
   unfolding afterHeader jobAt
   after-stands shape = stands-as (stands-then _ (surface-stands shape) (stands-then _ (terms-stand (after shape)) (stands-then _ (end-stands (after shape + termsSize)) stands-read))) (omega arith)
 
@@ -153,7 +180,7 @@ module _ (bytes : List ℕ) where
     where
       by : (t : Bool) → cond t (header bytes then afterHeader) malformed ≡ read job rest → job ≡ jobAt (job .surface .shape) (length (job .marks)) bytes
       by true e =
-          let q = stands-then afterHeader header-stands (after-stands shapeHere) .as-read job rest e .0 in
+          let q = stands-then afterHeader header-stands (after-stands shapeHere) .as-read job rest e (omega arith) .0 in
           let s : job .surface .shape ≡ shapeHere = ap (λ (j : Job). j .surface .shape) q in
           let n : length (job .marks) ≡ room (after shapeHere + termsSize) = ap (λ (j : Job). length (j .marks)) q ∙ marks-length _ _ in
           q ∙ ap (λ (shape : Shape). jobAt shape (room (after shapeHere + termsSize)) bytes) (sym s) ∙ ap (λ (k : ℕ). jobAt (job .surface .shape) k bytes) (sym n)
