@@ -52,20 +52,20 @@ fn print_numbers(bytes: &[u8], shape: Shape, marks: usize, numbers: &[f64], out:
     let u = shape.u;
     let v = shape.v;
     let total = controls(shape);
-    let a = knots(u);
-    let b = a + knots(v);
-    let c = b + 3 * total;
-    let d = c + total;
-    let at = HEADER_SIZE + 8 * d;
+    let ku_end = knots(u);
+    let kv_end = ku_end + knots(v);
+    let controls_end = kv_end + 3 * total;
+    let weights_end = controls_end + total;
+    let at = HEADER_SIZE + 8 * weights_end;
     let tolerance = number_at(bytes, at + 2);
     let budget = words::word_at(bytes, at + 10);
     let from = put_marks(out, 0, marks);
     print_row(
         shape,
-        &numbers[..a],
-        &numbers[a..b],
-        &numbers[b..c],
-        &numbers[c..d],
+        &numbers[..ku_end],
+        &numbers[ku_end..kv_end],
+        &numbers[kv_end..controls_end],
+        &numbers[controls_end..weights_end],
         tolerance,
         bytes,
         at + TERMS_SIZE,

@@ -19,17 +19,17 @@ knots-requires c κs = search needs
 knots-requires-2 : tie.Need-knots-requires-2
 knots-requires-2 c κs = search needs
 
-add-b : tie.Need-add-b
-add-b c = search needs
+add-kv-end : tie.Need-add-kv-end
+add-kv-end c = search needs
 
-mul-c : tie.Need-mul-c
-mul-c c = search needs
+mul-controls-end : tie.Need-mul-controls-end
+mul-controls-end c = search needs
 
-add-c : tie.Need-add-c
-add-c c = search needs
+add-controls-end : tie.Need-add-controls-end
+add-controls-end c = search needs
 
-add-d : tie.Need-add-d
-add-d c = search needs
+add-weights-end : tie.Need-add-weights-end
+add-weights-end c = search needs
 
 mul-at : tie.Need-mul-at
 mul-at c = search needs
@@ -126,10 +126,10 @@ print-numbers-spec =
     controls-requires
     knots-requires
     knots-requires-2
-    add-b
-    mul-c
-    add-c
-    add-d
+    add-kv-end
+    mul-controls-end
+    add-controls-end
+    add-weights-end
     mul-at
     add-at
     add-number-at
