@@ -26,21 +26,22 @@ program = ""
 
 
 def stored():
-    """The job files of crates/job_vectors with the printouts that the Rust gives: a kind, a count
-    of words, then each text as its count of bytes and these, eight to a word."""
-    stream = (HERE.parent / "crates" / "job_vectors" / "stdin").read_bytes()
+    """The job files of crates/vectors with the printouts that the Rust gives: records of a kind, 14
+    for a job, a count of words, and these, each text as its count of bytes and the bytes, eight to
+    a word."""
+    stream = (HERE.parent / "crates" / "vectors" / "stdin").read_bytes()
     at = 0
 
-    def text():
-        nonlocal at
+    def text(at):
         (count,) = struct.unpack_from("<Q", stream, at)
-        found = stream[at + 8 : at + 8 + count]
-        at += 8 + (count + 7) // 8 * 8
-        return found
+        return stream[at + 8 : at + 8 + count], at + 8 + (count + 7) // 8 * 8
 
     while at < len(stream):
-        at += 16
-        yield text(), text()
+        kind, words = struct.unpack_from("<2Q", stream, at)
+        if kind == 14:
+            file, after = text(at + 16)
+            yield file, text(after)[0]
+        at += 16 + 8 * words
 
 
 STORED = list(stored())

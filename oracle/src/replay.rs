@@ -1,20 +1,24 @@
 //! Stored records read back, and their inputs answered again.
-use crate::answers::Record;
+use crate::answers::{KINDS, Record};
 use crate::calls::{Search, Surface};
 use crate::generate::{Case, Inversion, Row};
 use crate::small::{Axis, KnotSide};
 use std::collections::BTreeMap;
 
-/// How many records of each kind are answered otherwise now.
+/// How many records of each kind are answered otherwise now. Those of Rust's own methods, whose
+/// kinds come after, are passed over.
 pub fn differing(mut words: &[u64]) -> BTreeMap<&'static str, usize> {
     let mut differing = BTreeMap::new();
     while let [kind, length, rest @ ..] = words {
         let (body, next) = rest.split_at(*length as usize);
+        words = next;
+        if *kind > KINDS.len() as u64 {
+            continue;
+        }
         let answered = Record::new(&Reader(body).case(*kind));
         if answered.words[2..] != *body {
             *differing.entry(answered.kind()).or_default() += 1;
         }
-        words = next;
     }
     differing
 }

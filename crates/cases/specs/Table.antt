@@ -15,14 +15,17 @@ use Rattle.spline.specs.declared.parameter.KnotSide.the-variants.{Right}
 use Rattle.spline.specs.Weights.{weighed}
 use Rattle.spline.specs.Knots.{Axis, axis}
 use Rattle.basis.specs.Basis.{Sample, sample, three, basisAt}
+use Rattle.price.specs.Price.{Priced, answered}
 use Rattle.surface.specs.declared.Counts.{Counts}
 use Rattle.surface.specs.Surface.{Surface, surface, scaleOf, wrapped}
+use Rattle.newton.specs.declared.End.{End}
 use Rattle.inversion.specs.declared.Hint.{Hint}
 use Rattle.inversion.specs.declared.Hint.the-variants.{Nothing, At}
-use Rattle.inversion.specs.Inversion.{Answer, pair, inversionBy}
-use Rattle.chart.specs.declared.Placing.{Placing}
-use Rattle.chart.specs.declared.Placing.the-variants.{Pair, Refusal}
+use Rattle.inversion.specs.Inversion.{inversionBy}
 use Rattle.chart.specs.Chart.{nearestTo}
+use Rattle.inverter.specs.declared.Components.{Components}
+use Rattle.inverter.specs.declared.Components.the-variants.{Along, Refusal}
+use Rattle.inverter.specs.Inverter.{leftOf}
 use Rattle.inverter.specs.Preimage.{derived}
 use Rattle.inverter.specs.Compute.{compute}
 use Rattle.edges.specs.declared.Edge.{Edge}
@@ -95,6 +98,10 @@ at x y z = record { x = x; y = y; z = z }
 abbrev mark : Vector3
 mark = at ¼· ½· ¾·
 
+-- the distance from the mark, and the price
+abbrev pair : Float → Float → Float → ℕ → Priced End
+pair u v distance price = answered (record { u = u; v = v; distance = distance }) price
+
 abbrev to : ℕ → Float → Vector3 → Float → Edge
 to k value point side = Collapsed (record { k = k; value = value; point = point; side = side })
 
@@ -104,8 +111,8 @@ pub data Case : Type 0 where
   weights : List Float → Weighed → Case
   basis : Axis → Float → Sample → Case
   wraps : Float → Float → Case
-  inverts : Surface → Vector3 → Hint → Float → Answer → Case
-  derives : Surface → Float → Float → Vector3 → Placing → Case
+  inverts : Surface → Vector3 → Hint → Float → Priced End → Case
+  derives : Surface → Float → Float → Vector3 → Components → Case
   collapses : Surface → Float → Edges → Case
   nearest : Float → Float → Float → Case
   roots : Float → Float → Case
@@ -116,8 +123,8 @@ Holds (basis a u r) = basisAt a Right u ≡ r
 -- periodic, the domain 0 to 1
 Holds (wraps t r) = wrapped true 0· 1· t ≡ r
 Holds (inverts s m h t r) = inversionBy s (scaleOf s) m h t ≡ r
--- a budget of 1
-Holds (derives s u v d r) = derived s u v d 1 ≡ r
+-- a budget of 1, of which nothing is left
+Holds (derives s u v d r) = (derived s u v d 1 ≡ r) × (leftOf 1 r ≡ 0)
 Holds (collapses s t r) = singular s t ≡ r
 -- the period 1
 Holds (nearest value hint r) = nearestTo value hint 1· ≡ r
@@ -128,21 +135,21 @@ All [] = Unit {0}
 All (c ∷ cs) = Holds c × All cs
 
 abbrev pub square-free : Case
-square-free = inverts square mark Nothing ½· (pair ¼· ½· 92)
+square-free = inverts square mark Nothing ½· (pair ¼· ½· ¾· 92)
 
 square-free-holds : Holds square-free
 unfolding compute
 square-free-holds = refl
 
 abbrev pub square-far : Case
-square-far = inverts square mark (At ¼· ½·) ½· (pair ¼· ½· 94)
+square-far = inverts square mark (At ¼· ½·) ½· (pair ¼· ½· ¾· 94)
 
 square-far-holds : Holds square-far
 unfolding compute
 square-far-holds = refl
 
 abbrev pub dot-free : Case
-dot-free = inverts dot (at 3· 4· 0·) Nothing 0· (pair inside inside 83)
+dot-free = inverts dot (at 3· 4· 0·) Nothing 0· (pair inside inside 5· 83)
 
 dot-free-holds : Holds dot-free
 unfolding compute
@@ -170,9 +177,9 @@ light =
     ∷ wraps (fin false 5 (negsuc 1)) ¼·
     ∷ wraps (neg ¼·) ¾·
     ∷ wraps 1· 1·
-    ∷ inverts square mark (At ¼· ½·) ¾· (pair ¼· ½· 1)
-    ∷ inverts square mark (At ½· ½·) ¾· (pair ¼· ½· 2)
-    ∷ derives square ¼· ½· (at 3· 5· 7·) (Pair 3· 5· 1)
+    ∷ inverts square mark (At ¼· ½·) ¾· (pair ¼· ½· ¾· 1)
+    ∷ inverts square mark (At ½· ½·) ¾· (pair ¼· ½· ¾· 2)
+    ∷ derives square ¼· ½· (at 3· 5· 7·) (Along 3· 5·)
     ∷ derives dot ¼· ½· (at 3· 5· 7·) (Refusal 10 1)
     ∷ nearest 0· ½· 1·
     ∷ nearest 0· under-half 0·
@@ -186,7 +193,7 @@ light =
 
 light-hold : All light
 unfolding compute
-light-hold = (refl, (refl, (refl, (refl, (refl, (refl, (refl, (refl, (refl, (refl, (refl, (refl, (refl, (refl, (refl, (refl, (refl, (refl, tt))))))))))))))))))
+light-hold = (refl, (refl, (refl, (refl, (refl, (refl, (refl, (refl, ((refl, refl), ((refl, refl), (refl, (refl, (refl, (refl, (refl, (refl, (refl, (refl, tt))))))))))))))))))
 
 abbrev pub rows : List Case
 rows = square-free ∷ square-far ∷ dot-free ∷ square-edges ∷ square-open ∷ light

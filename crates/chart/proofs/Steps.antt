@@ -4,29 +4,30 @@ use mathlib.Core.Bool.{Bool, true, false, and-eq-true-iff}
 use Prim.Native.Nat.{ℕ}
 use lib.Ieee.{Float}
 use Rattle.vector3.specs.declared.Vector3.{Vector3}
-use Rattle.vector3.specs.Laws.{Finite}
-use Rattle.patch.specs.Laws.{vector-finite}
+use Rattle.vector3.specs.Laws.{Finite, vector-finite}
+use Rattle.price.specs.Price.{spend}
 use Rattle.surface.specs.Surface.{Surface}
-use Rattle.inversion.specs.declared.Hint.{Hint}
-use Rattle.inversion.specs.declared.Inverted.{Inverted}
-use Rattle.inversion.specs.Inversion.{inversionBy, spend}
-use Rattle.chart.specs.declared.Period.{Period}
+use Rattle.newton.specs.declared.Outcome.{Outcome}
+use Rattle.newton.specs.Run.{outcomeOf}
+use Rattle.inversion.specs.Inversion.{inversionBy}
+use Rattle.chart.specs.declared.Terms.{Terms}
 use Rattle.chart.specs.declared.Placing.{Placing}
 use Rattle.chart.specs.declared.Placing.the-variants.{Refusal}
-use Rattle.chart.specs.Chart.{soundSearch, outcome, searched}
+use Rattle.chart.specs.Chart.{soundSearch, placingOf, placedBy}
 
-module _ (mark : Vector3) (hint : Hint) (tolerance : Float) (pu pv : Period) where
-  pub mark-finite : soundSearch mark hint tolerance pu pv ≡ true → Finite mark
+module _ (mark : Vector3) (t : Terms) where
+  pub mark-finite : soundSearch mark t ≡ true → Finite mark
   unfolding soundSearch
   mark-finite h = vector-finite mark (and-eq-true-iff _ _ .0 h .0)
 
-  module _ (s : Surface) (budget : ℕ) where
-    module _ (m : Float) {b : Bool} (e : b ≡ soundSearch mark hint tolerance pu pv) where
-      pub not-sound : b ≡ false → Refusal 7 0 ≡ searched s m mark hint tolerance pu pv budget (soundSearch mark hint tolerance pu pv)
-      unfolding searched
-      not-sound h = simp (← e, h)
+  module _ (s : Surface) (budget : ℕ) (m : Float) {b : Bool} (e : b ≡ soundSearch mark t) where
+    abbrev answer : Placing
+    answer = placedBy s m mark t budget (soundSearch mark t)
 
-      pub found : b ≡ true → {i : Inverted} → i ≡ spend budget (inversionBy s m mark hint tolerance) → {r : Placing} → r ≡ outcome budget hint pu pv i
-          → r ≡ searched s m mark hint tolerance pu pv budget (soundSearch mark hint tolerance pu pv)
-      unfolding searched
-      found h p q = q ∙ simp (← e, h, p)
+    pub not-sound : b ≡ false → Refusal 7 0 ≡ answer
+    unfolding placedBy
+    not-sound h = simp (← e, h)
+
+    pub found : b ≡ true → {o : Outcome} → o ≡ outcomeOf (spend budget (inversionBy s m mark (t .hint) (t .tolerance))) → {r : Placing} → r ≡ placingOf budget t o → r ≡ answer
+    unfolding placedBy
+    found h p q = q ∙ simp (← e, h, p)

@@ -1,10 +1,12 @@
 // What a search is given besides the surface, and the shift of its answer to the hint's turn.
 use crate::Period;
+use crate::Terms;
 use inversion::Hint;
+use newton::End;
 use vector3::Vector3;
+use vector3::finite_vector;
 ghost use mathlib.Core.Path.{_≡_};
-ghost use Rattle.chart.specs.Chart.{nearestTo, shifted, soundHint, soundPeriod, soundTerms, soundSearch};
-ghost use Rattle.patch.specs.Patch.{finiteVector};
+ghost use Rattle.chart.specs.Chart.{nearestTo, shifted, turned, soundHint, soundPeriod, soundTerms, soundSearch};
 
 // The number equal to `value` but for a whole number of periods that is nearest to `hint`.
 pub fn nearest(value: f64, hint: f64, period: f64) -> f64
@@ -13,12 +15,29 @@ pub fn nearest(value: f64, hint: f64, period: f64) -> f64
     value + period * float64::round((hint - value) / period)
 }
 
-pub(crate) fn shift(period: Period, hint: f64, value: f64) -> f64
+fn shift(period: Period, hint: f64, value: f64) -> f64
     ensures { λ r. ⌜ r ≡ shifted period hint value ⌝ }
 {
     match period {
         Period::Free => value,
         Period::Every(p) => nearest(value, hint, p),
+    }
+}
+
+// Shifted by periods to the hint's turn, as the hint was given. The distance stays.
+pub(crate) fn turned(terms: Terms, end: End) -> End
+    ensures { λ r. ⌜ r ≡ turned terms end ⌝ }
+{
+    let hint = terms.hint;
+    let period_u = terms.u;
+    let period_v = terms.v;
+    match hint {
+        Hint::Nothing => end,
+        Hint::At(u, v) => End {
+            u: shift(period_u, u, end.u),
+            v: shift(period_v, v, end.v),
+            distance: end.distance,
+        },
     }
 }
 
@@ -40,25 +59,22 @@ fn sound_period(period: Period) -> bool
     }
 }
 
-pub fn finite_vector(a: Vector3) -> bool
-    ensures { λ r. ⌜ r ≡ finiteVector a ⌝ }
-{
-    float64::is_finite(a.x) & float64::is_finite(a.y) & float64::is_finite(a.z)
-}
-
 // Check 7 of all but the mark. A tolerance of -0 passes.
-pub fn sound_terms(hint: Hint, tolerance: f64, pu: Period, pv: Period) -> bool
-    ensures { λ r. ⌜ r ≡ soundTerms hint tolerance pu pv ⌝ }
+pub fn sound_terms(terms: Terms) -> bool
+    ensures { λ r. ⌜ r ≡ soundTerms terms ⌝ }
 {
+    let hint = terms.hint;
+    let u = terms.u;
+    let v = terms.v;
     sound_hint(hint)
-        & (float64::is_finite(tolerance) & (0.0 <= tolerance))
-        & sound_period(pu)
-        & sound_period(pv)
+        & (float64::is_finite(terms.tolerance) & (0.0 <= terms.tolerance))
+        & sound_period(u)
+        & sound_period(v)
 }
 
 // Check 7.
-pub(crate) fn sound(mark: Vector3, hint: Hint, tolerance: f64, pu: Period, pv: Period) -> bool
-    ensures { λ r. ⌜ r ≡ soundSearch mark hint tolerance pu pv ⌝ }
+pub(crate) fn sound(mark: Vector3, terms: Terms) -> bool
+    ensures { λ r. ⌜ r ≡ soundSearch mark terms ⌝ }
 {
-    finite_vector(mark) & sound_terms(hint, tolerance, pu, pv)
+    finite_vector(mark) & sound_terms(terms)
 }

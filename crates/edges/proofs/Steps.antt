@@ -1,113 +1,101 @@
 -- The samples of an edge one by one, and the cases of an edge and of the call. Assumes nothing.
 use mathlib.Core.Path.{_≡_, refl, sym, _∙_}
 use mathlib.Core.Bool.{Bool, true, false, _&&_}
-use mathlib.Core.List.{_∷_, map}
 use Prim.Native.Nat.{ℕ, zero, suc, _+_, _-_, _<_}
 use native.Mathlib.Numerals.{add-one}
 use native.Mathlib.Omega.{arith}
 use lib.Ieee.{Float, le, neg}
-use Rattle.float64.specs.Operators.{_⊕_, _⊖_, _⊗_, _⊘_, 1·, 8·, ofNat}
+use Rattle.float64.specs.Operators.{1·}
 use Rattle.vector3.specs.declared.Vector3.{Vector3}
 use Rattle.vector3.specs.Vector3.{distance}
-use Rattle.spline.specs.Knots.{low, high}
 use Rattle.patch.specs.declared.Jet.{Jet}
 use Rattle.patch.specs.declared.Evaluated.{Evaluated}
 use Rattle.patch.specs.declared.Evaluated.the-variants as Eval
 use Rattle.surface.specs.declared.Checked.{Checked}
 use Rattle.surface.specs.declared.Checked.the-variants as Check
-use Rattle.surface.specs.Surface.{Surface, axisU, axisV, checked, evaluateBy}
-use Rattle.newton.specs.Run.{pointOf}
-use Rattle.seeds.specs.Axis.{eighths}
+use Rattle.surface.specs.declared.Domain.{Domain}
+use Rattle.surface.specs.Surface.{Surface, checked, evaluateBy}
+use Rattle.surface.specs.Intervals.{domainOf, eighthOf}
 use Rattle.edges.specs.declared.side.Line.{Line}
 use Rattle.edges.specs.declared.Edge.{Edge}
 use Rattle.edges.specs.declared.Edge.the-variants.{Open, Collapsed}
 use Rattle.edges.specs.declared.Edges.{Edges}
 use Rattle.edges.specs.declared.Edges.the-variants.{Found, Refusal}
-use Rattle.edges.specs.Edges.{lineU, lineV, sampleAt, samples, within, allWithin, singularAt, edgeBy, edgeOf, edgesOf, soundTolerance, tested, singularBy, singular}
+use Rattle.edges.specs.Edges.{line, near, singularAt, jetAt, jetOn, allNear, edgeBy, edgeOf, edgesOf, soundTolerance, tested, singularBy, singular}
 
 -- ---- a sample
 
-module _ (eval : Float → Float → Evaluated) (value t : Float) {e : Evaluated} where
-  pub on-u : (k : ℕ) → k ≡ 0 → e ≡ eval t value → e ≡ sampleAt eval k value t
-  unfolding sampleAt
-  on-u k h q = q ∙ simp h
+along-v : (eval : Float → Float → Evaluated) (k : ℕ) (value t : Float) → (k ≡ 0 → ⊥) → eval value t ≡ jetAt eval k value t
+unfolding jetAt
+along-v eval zero value t h = absurd (h refl)
+along-v eval (suc k) value t h = refl
 
-  pub on-v : (k : ℕ) → (k ≡ 0 → ⊥) → e ≡ eval value t → e ≡ sampleAt eval k value t
-  unfolding sampleAt
-  on-v zero h q = absurd (h refl)
-  on-v (suc n) h q = q
+module _ (eval : Float → Float → Evaluated) (l : Line) (i : ℕ) {t : Float} (p : t ≡ eighthOf (l .along .low) (l .along .high) i) {e : Evaluated} where
+  pub on-u : l .k ≡ 0 → e ≡ eval t (l .value) → e ≡ jetOn eval l i
+  unfolding jetAt
+  on-u h q = q ∙ simp (h, p)
+
+  pub on-v : (l .k ≡ 0 → ⊥) → e ≡ eval (l .value) t → e ≡ jetOn eval l i
+  on-v h q = q ∙ along-v eval (l .k) (l .value) t h ∙ simp p
 
 module _ (tolerance : Float) (point : Vector3) {e : Evaluated} where
-  pub found-near : {j : Jet} → e ≡ Eval.Found j → {p : Vector3} → p ≡ pointOf j → {d : Float} → d ≡ distance p point → le d tolerance ≡ within tolerance point e
-  unfolding within
-  found-near h p q = simp (h, p, q)
+  pub found-near : {j : Jet} → e ≡ Eval.Found j → {d : Float} → d ≡ distance (j .point) point → le d tolerance ≡ near tolerance point e
+  unfolding near
+  found-near h q = simp (h, q)
 
-  pub refused-near : e ≡ Eval.Refused → false ≡ within tolerance point e
-  unfolding within
+  pub refused-near : e ≡ Eval.Refused → false ≡ near tolerance point e
+  unfolding near
   refused-near h = simp h
 
 -- ---- the samples of a line
 
-abbrev eighth : Line → ℕ → Float
-eighth l i = l .low ⊕ (l .high ⊖ l .low) ⊗ ofNat i ⊘ 8·
-
-eighths-more : (n m i : ℕ) (l : Line) → n ≡ suc m → eighths n i (l .low) (l .high) ≡ eighth l i ∷ eighths m (i + 1) (l .low) (l .high)
-unfolding eighths
-eighths-more n m i l h = rw (h, add-one i)
-
-module _ (eval : Float → Float → Evaluated) (tolerance : Float) (l : Line) (point : Vector3) where
+module _ (eval : Float → Float → Evaluated) (l : Line) (tolerance : Float) (point : Vector3) where
   -- those from number i on
   abbrev pub from : ℕ → Bool
-  from i = allWithin tolerance point (map (sampleAt eval (l .k) (l .value)) (eighths (9 - i) i (l .low) (l .high)))
-
-  pub begin : allWithin tolerance point (samples eval l) ≡ from 0
-  unfolding samples
-  begin = refl
+  from i = allNear eval l tolerance point (9 - i) i
 
   module _ {all : Bool} (i : ℕ) (w : all ≡ from i) where
     pub over : i ≡ 9 → true ≡ all
-    unfolding eighths allWithin
+    unfolding allNear
     over h = sym (w ∙ rw h)
 
-    module _ (b : i < 9) {t : Float} (p : t ≡ eighth l i) {e : Evaluated} (q : e ≡ sampleAt eval (l .k) (l .value) t) {near : Bool} (r : near ≡ within tolerance point e) where
-      step : all ≡ (near && from (i + 1))
-      unfolding allWithin
-      step = w ∙ simp (eighths-more (9 - i) (9 - (i + 1)) i l (omega arith), r, q, p)
+    module _ (b : i < 9) {e : Evaluated} (q : e ≡ jetOn eval l i) {n : Bool} (r : n ≡ near tolerance point e) where
+      step : all ≡ (n && from (i + 1))
+      unfolding allNear
+      step =
+          let more : 9 - i ≡ suc (9 - (i + 1)) = omega arith in
+          w ∙ rw (more, r, q, add-one i)
 
-      pub stops : near ≡ false → false ≡ all
+      pub stops : n ≡ false → false ≡ all
       stops h = sym (step ∙ simp h)
 
-      pub goes : near ≡ true → all ≡ from (i + 1)
+      pub goes : n ≡ true → all ≡ from (i + 1)
       goes h = step ∙ simp h
 
 -- ---- an edge, by its middle sample
 
-module _ (eval : Float → Float → Evaluated) (tolerance : Float) (l : Line) (side : Float) {t : Float} (p : t ≡ eighth l 4) {e : Evaluated} (q : e ≡ sampleAt eval (l .k) (l .value) t) where
-  by-middle : edgeOf eval tolerance l side ≡ edgeBy tolerance l side (samples eval l) e
-  unfolding edgeOf samples eighths
-  by-middle = simp (q, p)
-
+module _ (eval : Float → Float → Evaluated) (tolerance : Float) (l : Line) (side : Float) {e : Evaluated} (q : e ≡ jetOn eval l 4) where
   pub no-middle : e ≡ Eval.Refused → Open ≡ edgeOf eval tolerance l side
-  unfolding edgeBy
-  no-middle h = sym (by-middle ∙ simp h)
+  unfolding edgeOf edgeBy
+  no-middle h = simp (← q, h)
 
-  module _ {j : Jet} (h : e ≡ Eval.Found j) {c : Vector3} (r : c ≡ pointOf j) {near : Bool} (s : near ≡ allWithin tolerance c (samples eval l)) where
-    pub stays-open : near ≡ false → Open ≡ edgeOf eval tolerance l side
-    unfolding edgeBy
-    stays-open n = sym (by-middle ∙ simp (h, ← r, ← s, n))
+  module _ {j : Jet} (h : e ≡ Eval.Found j) {all : Bool} (s : all ≡ allNear eval l tolerance (j .point) 9 0) where
+    pub stays-open : all ≡ false → Open ≡ edgeOf eval tolerance l side
+    unfolding edgeOf edgeBy
+    stays-open n = simp (← q, h, ← s, n)
 
-    pub collapses : near ≡ true → Collapsed (singularAt l side c) ≡ edgeOf eval tolerance l side
-    unfolding edgeBy
-    collapses n = sym (by-middle ∙ simp (h, ← r, ← s, n))
+    pub collapses : all ≡ true → Collapsed (singularAt l side (j .point)) ≡ edgeOf eval tolerance l side
+    unfolding edgeOf edgeBy
+    collapses n = simp (← q, h, ← s, n)
 
 -- ---- the call
 
 module _ (s : Surface) (tolerance : Float) where
-  module _ (m : Float) {a b c d : Line} (e : a ≡ lineU s (low (axisV s))) (f : b ≡ lineU s (high (axisV s))) (g : c ≡ lineV s (low (axisU s))) (h : d ≡ lineV s (high (axisU s))) where
-    pub four-told : {p q r t : Edge} → p ≡ edgeOf (evaluateBy s m) tolerance a 1· → q ≡ edgeOf (evaluateBy s m) tolerance b (neg 1·)
-        → r ≡ edgeOf (evaluateBy s m) tolerance c 1· → t ≡ edgeOf (evaluateBy s m) tolerance d (neg 1·) → Found p q r t ≡ edgesOf s m tolerance
+  module _ (m : Float) {d : Domain} (e : (d .u ≡ domainOf s .u) × (d .v ≡ domainOf s .v)) {a b c f : Line} (g : a ≡ line 0 (d .u) (d .v .low)) (h : b ≡ line 0 (d .u) (d .v .high)) (i : c ≡ line 1 (d .v) (d .u .low)) (j : f ≡ line 1 (d .v) (d .u .high)) where
+    pub all-told : {p q r t : Edge} → p ≡ edgeOf (evaluateBy s m) tolerance a 1· → q ≡ edgeOf (evaluateBy s m) tolerance b (neg 1·)
+        → r ≡ edgeOf (evaluateBy s m) tolerance c 1· → t ≡ edgeOf (evaluateBy s m) tolerance f (neg 1·) → Found p q r t ≡ edgesOf s m tolerance
     unfolding edgesOf
-    four-told p q r t = simp (p, q, r, t, e, f, g, h)
+    all-told p q r t = simp (p, q, r, t, g, h, i, j, e .0, e .1)
 
   module _ (m : Float) {b : Bool} (e : b ≡ soundTolerance tolerance) where
     pub not-sound : b ≡ false → Refusal 7 ≡ tested s m tolerance (soundTolerance tolerance)

@@ -1,7 +1,7 @@
 -- One name that opens every definition, those of the crates below too: a theorem that computes says `unfolding compute`.
-use Rattle.seeds.specs.Compute as Seeds
-use Rattle.edges.specs.Edges.{sampleAt, samples, within, allWithin, edgeBy, edgeOf, edgesOf, soundTolerance, tested, singularBy, singular, numberOf, collapsed, listOf}
+use Rattle.surface.specs.Compute as Surface
+use Rattle.edges.specs.Edges.{near, jetAt, allNear, edgeBy, edgeOf, edgesOf, soundTolerance, tested, singularBy, singular, numberOf, collapsed, listOf}
 
 unfoldable pub compute : Unit {0}
-unfolding Seeds.compute sampleAt samples within allWithin edgeBy edgeOf edgesOf soundTolerance tested singularBy singular numberOf collapsed listOf
+unfolding Surface.compute near jetAt allNear edgeBy edgeOf edgesOf soundTolerance tested singularBy singular numberOf collapsed listOf
 compute = tt

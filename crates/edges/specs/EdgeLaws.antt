@@ -1,10 +1,9 @@
 -- When an edge collapses, and the number of an answer. Assumes nothing.
 use mathlib.Core.Path.{_≡_, refl, sym, ap, _∙_}
 use mathlib.Core.Bool.{Bool, true, false, not, cond, false≢true}
-use mathlib.Core.List.{List, [], _∷_}
-use Prim.Native.Nat.{ℕ, zero, suc, _<_}
+use Prim.Native.Nat.{ℕ, zero, suc, _+_, _<_}
+use native.Mathlib.Nat.{zero-add, add-zero, suc-add, add-suc}
 use native.Mathlib.Omega.{arith}
-use lib.ListN.{length, getD}
 use lib.Ieee.{Float, le}
 use Rattle.float64.specs.Order.{le-trans}
 use Rattle.vector3.specs.declared.Vector3.{Vector3}
@@ -14,13 +13,11 @@ use Rattle.patch.specs.declared.Jet.{Jet}
 use Rattle.patch.specs.declared.Evaluated.{Evaluated}
 use Rattle.patch.specs.declared.Evaluated.the-variants as Eval
 use Rattle.surface.specs.Surface.{Surface, scaleOf, orElse, when, refusalOfSurface, judged, checked}
-use Rattle.newton.specs.Run.{pointOf}
-use Rattle.seeds.specs.Axis.{eighths}
 use Rattle.edges.specs.declared.side.Line.{Line}
 use Rattle.edges.specs.declared.Singular.{Singular}
 use Rattle.edges.specs.declared.Edge.{Edge}
 use Rattle.edges.specs.declared.Edge.the-variants.{Open, Collapsed}
-use Rattle.edges.specs.Edges.{samples, within, allWithin, singularAt, edgeBy, edgeOf, edgesOf, soundTolerance, tested, singularBy, singular, numberOf}
+use Rattle.edges.specs.Edges.{near, singularAt, jetOn, allNear, edgeBy, edgeOf, edgesOf, soundTolerance, tested, singularBy, singular, numberOf}
 
 -- ---- samples
 
@@ -28,66 +25,58 @@ use Rattle.edges.specs.Edges.{samples, within, allWithin, singularAt, ed
 pub record Near (tolerance : Float) (p : Vector3) (e : Evaluated) : Type 0 where
   pub jet : Jet
   pub found : e ≡ Eval.Found jet
-  pub near : le (distance (pointOf jet) p) tolerance ≡ true
+  pub near : le (distance (jet .point) p) tolerance ≡ true
 
-is-near : (tolerance : Float) (p : Vector3) (e : Evaluated) → within tolerance p e ≡ true → Near tolerance p e
-unfolding within
+is-near : (tolerance : Float) (p : Vector3) (e : Evaluated) → near tolerance p e ≡ true → Near tolerance p e
+unfolding near
 is-near tolerance p Eval.Refused h = absurd (false≢true h)
 is-near tolerance p (Eval.Found j) h = record { jet = j; found = refl; near = h }
 
-all-near : (tolerance : Float) (p : Vector3) (es : List Evaluated) → allWithin tolerance p es ≡ true → (i : ℕ) → i < length es → Near tolerance p (getD es i Eval.Refused)
-unfolding allWithin
-all-near tolerance p [] h i l = absurd (omega arith)
-all-near tolerance p (e ∷ es) h zero l = is-near tolerance p e (both (within tolerance p e) (allWithin tolerance p es) h .0)
-all-near tolerance p (e ∷ es) h (suc i) l = all-near tolerance p es (both (within tolerance p e) (allWithin tolerance p es) h .1) i (omega arith)
-
-within-near : (tolerance : Float) (p : Vector3) (e : Evaluated) → Near tolerance p e → within tolerance p e ≡ true
-unfolding within
-within-near tolerance p e n = ap (within tolerance p) (n .found) ∙ n .near
-
-near-all : (tolerance : Float) (p : Vector3) (es : List Evaluated) → ((i : ℕ) → i < length es → Near tolerance p (getD es i Eval.Refused)) → allWithin tolerance p es ≡ true
-unfolding allWithin
-near-all tolerance p [] h = refl
-near-all tolerance p (e ∷ es) h = simp (within-near tolerance p e (h 0 (omega arith)), near-all tolerance p es (λ i l. h (suc i) (omega arith)))
+near-is : (tolerance : Float) (p : Vector3) (e : Evaluated) → Near tolerance p e → near tolerance p e ≡ true
+unfolding near
+near-is tolerance p e n = ap (near tolerance p) (n .found) ∙ n .near
 
 -- ---- an edge
 
 module _ (eval : Float → Float → Evaluated) (l : Line) where
-  abbrev pub sampleNumber : ℕ → Evaluated
-  sampleNumber i = getD (samples eval l) i Eval.Refused
+  module _ (tolerance : Float) (p : Vector3) where
+    -- of n samples from number i on, the one m further
+    all-near : (n i : ℕ) → allNear eval l tolerance p n i ≡ true → (m : ℕ) → m < n → Near tolerance p (jetOn eval l (m + i))
+    unfolding allNear
+    all-near (suc n) i h zero b = rw zero-add (is-near tolerance p (jetOn eval l i) (both (near tolerance p (jetOn eval l i)) _ h .0))
+    all-near (suc n) i h (suc m) b = rw (suc-add, ← add-suc) (all-near n (suc i) (both (near tolerance p (jetOn eval l i)) _ h .1) m (omega arith))
 
-  nine : length (samples eval l) ≡ 9
-  unfolding samples eighths
-  nine = refl
+    near-all : (n i : ℕ) → ((m : ℕ) → m < n → Near tolerance p (jetOn eval l (m + i))) → allNear eval l tolerance p n i ≡ true
+    unfolding allNear
+    near-all zero i h = refl
+    near-all (suc n) i h = simp (near-is tolerance p (jetOn eval l i) (rw zero-add at (h 0 (omega arith))), near-all n (suc i) (λ m b. rw (add-suc, ← suc-add) (h (suc m) (omega arith))))
 
   module _ (side : Float) where
     -- how an edge collapses to x: all nine samples are found within the tolerance of the middle one, which is x's point
     pub record Collapse (tolerance : Float) (x : Singular) : Type 0 where
       pub jet : Jet
-      pub middle : sampleNumber 4 ≡ Eval.Found jet
-      pub is : x ≡ singularAt l side (pointOf jet)
-      pub all : (i : ℕ) → i < 9 → Near tolerance (pointOf jet) (sampleNumber i)
+      pub middle : jetOn eval l 4 ≡ Eval.Found jet
+      pub is : x ≡ singularAt l side (jet .point)
+      pub all : (i : ℕ) → i < 9 → Near tolerance (jet .point) (jetOn eval l i)
 
     module _ (tolerance : Float) (x : Singular) where
-      by-all : (j : Jet) → sampleNumber 4 ≡ Eval.Found j → (b : Bool) → allWithin tolerance (pointOf j) (samples eval l) ≡ b
-          → cond b (Collapsed (singularAt l side (pointOf j))) Open ≡ Collapsed x → Collapse tolerance x
-      by-all j m true a h = record { jet = j; middle = m; is = cc; all = λ i b. all-near tolerance (pointOf j) (samples eval l) a i (omega (arith, nine)) }
+      by-all : (j : Jet) → jetOn eval l 4 ≡ Eval.Found j → (b : Bool) → allNear eval l tolerance (j .point) 9 0 ≡ b
+          → cond b (Collapsed (singularAt l side (j .point))) Open ≡ Collapsed x → Collapse tolerance x
+      by-all j m true a h = record { jet = j; middle = m; is = cc; all = λ i b. rw add-zero at (all-near tolerance (j .point) 9 0 a i b) }
       by-all j m false a h = let z : _≡_ {A = ℕ} 0 1 = cc in absurd (omega arith)
 
-      by-middle : (e : Evaluated) → sampleNumber 4 ≡ e → edgeBy tolerance l side (samples eval l) e ≡ Collapsed x → Collapse tolerance x
+      by-middle : (e : Evaluated) → jetOn eval l 4 ≡ e → edgeBy eval tolerance l side e ≡ Collapsed x → Collapse tolerance x
       unfolding edgeBy
       by-middle Eval.Refused m h = let z : _≡_ {A = ℕ} 0 1 = cc in absurd (omega arith)
-      by-middle (Eval.Found j) m h = by-all j m (allWithin tolerance (pointOf j) (samples eval l)) refl h
+      by-middle (Eval.Found j) m h = by-all j m (allNear eval l tolerance (j .point) 9 0) refl h
 
       pub collapse : edgeOf eval tolerance l side ≡ Collapsed x → Collapse tolerance x
       unfolding edgeOf
-      collapse h = by-middle (sampleNumber 4) refl h
+      collapse h = by-middle (jetOn eval l 4) refl h
 
       pub collapse-suffices : Collapse tolerance x → edgeOf eval tolerance l side ≡ Collapsed x
       unfolding edgeOf edgeBy
-      collapse-suffices c =
-          let a : allWithin tolerance (pointOf (c .jet)) (samples eval l) ≡ true = near-all tolerance (pointOf (c .jet)) (samples eval l) (λ i b. c .all i (omega (arith, nine))) in
-          simp (c .middle, a, c .is)
+      collapse-suffices c = simp (c .middle, near-all tolerance (c .jet .point) 9 0 (λ i b. rw add-zero (c .all i b)), c .is)
 
     -- a collapsed edge stays as it is under a larger tolerance
     pub wider : (t t' : Float) → le t t' ≡ true → (x : Singular) → edgeOf eval t l side ≡ Collapsed x → edgeOf eval t' l side ≡ Collapsed x
@@ -101,7 +90,7 @@ module _ (eval : Float → Float → Evaluated) (l : Line) where
         })
 
     -- "an edge with a refused sample is skipped"
-    pub skipped : (tolerance : Float) (i : ℕ) → i < 9 → sampleNumber i ≡ Eval.Refused → edgeOf eval tolerance l side ≡ Open
+    pub skipped : (tolerance : Float) (i : ℕ) → i < 9 → jetOn eval l i ≡ Eval.Refused → edgeOf eval tolerance l side ≡ Open
     skipped tolerance i b r = by (edgeOf eval tolerance l side) refl
       where
         by : (e : Edge) → edgeOf eval tolerance l side ≡ e → e ≡ Open

@@ -2,14 +2,16 @@
 mod side;
 
 use float64::is_finite;
-use side::along;
 use side::edge;
+use side::line_of;
 use surface::Checked;
 use surface::Shape;
 use surface::check;
+use surface::domain_of;
 use vector3::Vector3;
 ghost use mathlib.Core.Path.{_≡_};
-ghost use Rattle.surface.specs.Surface.{surface, refusalOfSurface};
+ghost use Rattle.surface.specs.Surface.{refusalOfSurface};
+ghost use Rattle.surface.specs.Lent.{surfaceOf, atEntry};
 ghost use Rattle.edges.specs.Edges.{edgesOf, soundTolerance, tested, singular};
 
 // The parameter across axis k has the value. The surface lies at larger ones where side is 1, at smaller ones where it is -1.
@@ -39,7 +41,7 @@ pub fn nurbs_singular(
     weights: &[f64],
     tolerance: f64,
 ) -> Edges
-    ensures { λ r. ⌜ r ≡ singular (surface shape (now (ku .entry)) (now (kv .entry)) (now (controls .entry)) (now (weights .entry))) tolerance ⌝ }
+    ensures { λ r. ⌜ r ≡ singular (atEntry shape ku kv controls weights) tolerance ⌝ }
 {
     let checked = check(shape, ku, kv, controls, weights);
     match checked {
@@ -73,17 +75,17 @@ fn singular_checked(
     scale: f64,
     tolerance: f64,
 ) -> Edges
-    requires { ⌜ refusalOfSurface (surface shape (now ku) (now kv) (now controls) (now weights)) ≡ 0 ⌝ }
-    ensures { λ r. ⌜ r ≡ tested (surface shape (now (ku .entry)) (now (kv .entry)) (now (controls .entry)) (now (weights .entry))) scale tolerance (soundTolerance tolerance) ⌝ }
+    requires { ⌜ refusalOfSurface (surfaceOf shape ku kv controls weights) ≡ 0 ⌝ }
+    ensures { λ r. ⌜ r ≡ tested (atEntry shape ku kv controls weights) scale tolerance (soundTolerance tolerance) ⌝ }
 {
     if !sound_tolerance(tolerance) {
         return Edges::Refusal(7);
     }
-    four(shape, ku, kv, controls, weights, scale, tolerance)
+    all_edges(shape, ku, kv, controls, weights, scale, tolerance)
 }
 
-// In the source's order.
-fn four(
+// The four edges, in the source's order.
+fn all_edges(
     shape: Shape,
     ku: &[f64],
     kv: &[f64],
@@ -92,23 +94,16 @@ fn four(
     scale: f64,
     tolerance: f64,
 ) -> Edges
-    requires { ⌜ refusalOfSurface (surface shape (now ku) (now kv) (now controls) (now weights)) ≡ 0 ⌝ }
-    ensures { λ r. ⌜ r ≡ edgesOf (surface shape (now (ku .entry)) (now (kv .entry)) (now (controls .entry)) (now (weights .entry))) scale tolerance ⌝ }
+    requires { ⌜ refusalOfSurface (surfaceOf shape ku kv controls weights) ≡ 0 ⌝ }
+    ensures { λ r. ⌜ r ≡ edgesOf (atEntry shape ku kv controls weights) scale tolerance ⌝ }
 {
-    let u = shape.u;
-    let v = shape.v;
-    let du = u.degree;
-    let nu = u.controls;
-    let dv = v.degree;
-    let nv = v.controls;
-    let low_u = ku[du];
-    let high_u = ku[nu];
-    let low_v = kv[dv];
-    let high_v = kv[nv];
-    let a = along(0, low_u, high_u, low_v);
-    let b = along(0, low_u, high_u, high_v);
-    let c = along(1, low_v, high_v, low_u);
-    let d = along(1, low_v, high_v, high_u);
+    let domain = domain_of(shape, ku, kv);
+    let u = domain.u;
+    let v = domain.v;
+    let a = line_of(0, u, v.low);
+    let b = line_of(0, u, v.high);
+    let c = line_of(1, v, u.low);
+    let d = line_of(1, v, u.high);
     Edges::Found(
         edge(shape, ku, kv, controls, weights, scale, tolerance, a, 1.0),
         edge(shape, ku, kv, controls, weights, scale, tolerance, b, -1.0),

@@ -19,9 +19,16 @@ abs nan = nan
 abs (inf s) = inf false
 abs (fin s m e) = fin false m e
 
--- a NaN gives way to the other number; of two equal ones, as -0 and +0, the first
+-- the first where they are equal, as -0 and +0 are, or one of them is a NaN
+abbrev pub larger : Float → Float → Float
+larger x y = cond (lt x y) y x
+
+abbrev pub lesser : Float → Float → Float
+lesser x y = cond (lt y x) y x
+
+-- a NaN gives way to the other number
 unfoldable pub max : Float → Float → Float
-max x y = cond (isNan x) y (cond (lt x y) y x)
+max x y = cond (isNan x) y (larger x y)
 
 -- x itself unless it lies below lo or above hi, so a NaN and a zero of either sign pass
 unfoldable pub clamp : Float → Float → Float → Float

@@ -10,7 +10,7 @@ use lib.IntN.{ℤ}
 use lib.Dec.{leb, ltb, eqb}
 use lib.Ieee.{Float, nan, inf, fin, up, down, below, level, lt, le, eq, isNan}
 use lib.Ieee.Fits.{down-pos}
-use Rattle.float64.specs.Functions.{isFinite}
+use Rattle.float64.specs.Functions.{isFinite, larger, max}
 use borrow.Author.Tests.{leb-true, leb-false, eqb-true, lt-ltb, le-ltb, le-leb, eq-eqb, ne-eqb, not-true}
 
 -- ---- tests
@@ -19,6 +19,10 @@ pub agree : (p q : Bool) → (p ≡ true → q ≡ true) → (q ≡ true → p �
 agree true q f g = sym (f refl)
 agree false true f g = g refl
 agree false false f g = refl
+
+pub neither : (p q : Bool) → (p || q) ≡ false → (p ≡ false) × (q ≡ false)
+neither true q h = absurd (true≢false h)
+neither false q h = (refl, h)
 
 pub never : (t : Bool) → (t ≡ true → ⊥) → t ≡ false
 never true f = absurd (f refl)
@@ -198,6 +202,17 @@ le-lt-trans x y z h k =
 
 pub lt-trans : (x y z : Float) → lt x y ≡ true → lt y z ≡ true → lt x z ≡ true
 lt-trans x y z h k = lt-le-trans x y z h (lt→le y z k)
+
+pub max-larger : (x y : Float) → isNan x ≡ false → max x y ≡ larger x y
+unfolding max
+max-larger x y h = rw h
+
+pub larger-number : (x y : Float) → isNan x ≡ false → isNan (larger x y) ≡ false
+larger-number x y h = by (lt x y) refl
+  where
+    by : (t : Bool) → lt x y ≡ t → isNan (cond t y x) ≡ false
+    by true e = le→number x y (lt→le x y e) .1
+    by false e = h
 
 pub finite→number : (x : Float) → isFinite x ≡ true → isNan x ≡ false
 unfolding isFinite isNan

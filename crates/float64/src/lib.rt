@@ -8,8 +8,6 @@ pub use integral::round;
 use remainder::remainder;
 pub use square_root::root;
 ghost use mathlib.Core.Path.{_≡_};
-ghost use mathlib.Core.Bool.{false};
-ghost use lib.Ieee.{isNan};
 ghost use Rattle.float64.specs.Functions as Functions;
 
 pub fn is_finite(x: f64) -> bool
@@ -44,12 +42,20 @@ pub fn max(x: f64, y: f64) -> f64
     x
 }
 
-// The same where x is a number, in one step of the machine.
+// The first where they are equal or one of them is a NaN. One step of the machine each, where `max` takes more.
 pub fn larger(x: f64, other: f64) -> f64
-    requires { ⌜ isNan x ≡ false ⌝ }
-    ensures { λ r. ⌜ (r ≡ Functions.max x other) × (isNan r ≡ false) ⌝ }
+    ensures { λ r. ⌜ r ≡ Functions.larger x other ⌝ }
 {
     if x < other {
+        return other;
+    }
+    x
+}
+
+pub fn lesser(x: f64, other: f64) -> f64
+    ensures { λ r. ⌜ r ≡ Functions.lesser x other ⌝ }
+{
+    if other < x {
         return other;
     }
     x

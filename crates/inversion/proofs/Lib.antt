@@ -1,3 +1,2 @@
-pub mod Budget
 pub mod SearchSteps
 pub mod ExploreSteps

@@ -1,7 +1,8 @@
 -- One name that opens every definition, those of the crates below too: a theorem that computes says `unfolding compute`.
+use Rattle.newton.specs.Compute as Newton
 use Rattle.seeds.specs.Compute as Seeds
-use Rattle.inversion.specs.Inversion.{nearer, nearest, before, chosen, concluded, led, runs, free, fromEnd, unlessClose, hinted, plainSteps, domainOf, inversionBy, told, spend}
+use Rattle.inversion.specs.Inversion.{nearer, nearestEnd, led, choose, runs, searched, explored, unlessClose, hinted, plainSteps, inversionBy}
 
 unfoldable pub compute : Unit {0}
-unfolding Seeds.compute nearer nearest before chosen concluded led runs free fromEnd unlessClose hinted plainSteps domainOf inversionBy told spend
+unfolding Newton.compute Seeds.compute nearer nearestEnd led choose runs searched explored unlessClose hinted plainSteps inversionBy
 compute = tt

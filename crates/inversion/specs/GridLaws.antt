@@ -9,51 +9,50 @@ use lib.ListN.{length, take, length-take}
 use lib.Ieee.{Float, le, eq}
 use Rattle.float64.specs.Order.{le-trans, lt-not-le}
 use Rattle.vector3.specs.declared.Vector3.{Vector3}
+use Rattle.price.specs.Price.{Priced, refused, answered, price, after, mapped}
+use Rattle.price.specs.PriceLaws.{Between, Answers, answers-map, after-answers, mapped-answers}
 use Rattle.patch.specs.declared.Jet.{Jet}
 use Rattle.patch.specs.declared.Evaluated.{Evaluated}
 use Rattle.patch.specs.declared.Evaluated.the-variants.{Found, Refused}
-use Rattle.newton.specs.Run.{fromMark}
+use Rattle.patch.specs.Patch.{fromMark}
 use Rattle.seeds.specs.declared.Start.{Start}
-use Rattle.seeds.specs.Grid.{startAt, Survey, stopped, surveyed, after, seen, alongV, survey, insert, sorted, apartFrom, apart, startsOf}
+use Rattle.seeds.specs.Grid.{startAt, seen, rowOf, survey, insert, sorted, apartFrom, apart, startsOf}
 use Rattle.inversion.specs.Nearest.{All, all-at, all-map, Number, Nearest, here, there, nearest-member, nearest-least}
 
 -- ---- the walk
 
 -- of k points: one evaluation each, or fewer where one refuses
-abbrev pub Counted : ℕ → Survey → Type 0
-Counted k (stopped n) = (1 ≤ n) × (n ≤ k)
-Counted k (surveyed ps) = length ps ≡ k
+abbrev pub Counted : ℕ → Priced (List Start) → Type 0
+Counted k (refused n) = (1 ≤ n) × (n ≤ k)
+Counted k (answered ps n) = (length ps ≡ k) × (n ≡ k)
 
 -- what holds of the points, where no evaluation refuses
-abbrev pub Sees : (List Start → Type 0) → Survey → Type 0
-Sees P (stopped n) = Unit {0}
-Sees P (surveyed ps) = P ps
-
-after-counted : (k : ℕ) (s : Survey) (p : Start) → Counted k s → Counted (suc k) (after s p)
-unfolding after
-after-counted k (stopped n) p h = (omega arith, omega arith)
-after-counted k (surveyed ps) p h = ap suc h
-
-after-sees : (P : List Start → Type 0) (s : Survey) (p : Start) → ((ps : List Start) → P ps → P (p ∷ ps)) → Sees P s → Sees P (after s p)
-unfolding after
-after-sees P (stopped n) p more h = tt
-after-sees P (surveyed ps) p more h = more ps h
+abbrev pub Sees : (List Start → Type 0) → Priced (List Start) → Type 0
+Sees P s = Answers (λ ps n. P ps) s
 
 module _ (mark : Vector3) (eval : Float → Float → Evaluated) where
-  seen-counted : (k : ℕ) (rest : Survey) (x y : Float) (e : Evaluated) → Counted k rest → Counted (suc k) (seen mark eval rest x y e)
-  unfolding seen
+  seen-counted : (k : ℕ) (rest : Priced (List Start)) (x y : Float) (e : Evaluated) → Counted k rest → Counted (suc k) (seen mark eval rest x y e)
+  unfolding seen after mapped
   seen-counted k rest x y Refused h = (omega arith, omega arith)
-  seen-counted k rest x y (Found j) h = after-counted k rest _ h
+  seen-counted k (refused n) x y (Found j) h = (omega arith, omega arith)
+  seen-counted k (answered ps n) x y (Found j) h = (ap suc (h .0), omega (arith, h .1))
 
-  alongV-counted : (k : ℕ) (x : Float) (ys : List Float) (below : Survey) → Counted k below → Counted (k + length ys) (alongV mark eval x ys below)
-  unfolding alongV
-  alongV-counted k x [] below h = rw add-zero h
-  alongV-counted k x (y ∷ ys) below h = rw add-suc (seen-counted _ _ x y (eval x y) (alongV-counted k x ys below h))
+  rowOf-counted : (k : ℕ) (x : Float) (ys : List Float) (below : Priced (List Start)) → Counted k below → Counted (k + length ys) (rowOf mark eval x ys below)
+  unfolding rowOf
+  rowOf-counted k x [] below h = rw add-zero h
+  rowOf-counted k x (y ∷ ys) below h = rw add-suc (seen-counted _ _ x y (eval x y) (rowOf-counted k x ys below h))
 
   pub survey-counted : (us vs : List Float) → Counted (length us * length vs) (survey mark eval us vs)
   unfolding survey
-  survey-counted [] vs = rw zero-mul
-  survey-counted (x ∷ us) vs = rw suc-mul (alongV-counted _ x vs _ (survey-counted us vs))
+  survey-counted [] vs = rw zero-mul (refl, refl)
+  survey-counted (x ∷ us) vs = rw suc-mul (rowOf-counted _ x vs _ (survey-counted us vs))
+
+  counted-price : (k : ℕ) (s : Priced (List Start)) → 1 ≤ k → Counted k s → Between 1 (price s) k
+  counted-price k (refused n) some h = record { above = h .0; under = h .1 }
+  counted-price k (answered ps n) some h = record { above = omega (arith, h .1); under = omega (arith, h .1) }
+
+  pub survey-price : (us vs : List Float) → 1 ≤ length us * length vs → Between 1 (price (survey mark eval us vs)) (length us * length vs)
+  survey-price us vs some = counted-price _ (survey mark eval us vs) some (survey-counted us vs)
 
   -- a point with the distance that its evaluation gives
   pub record Seen (p : Start) : Type 0 where
@@ -62,47 +61,48 @@ module _ (mark : Vector3) (eval : Float → Float → Evaluated) where
     pub distance : p .distance ≡ fromMark mark jet
 
   module _ (P : List Start → Type 0) (more : (p : Start) → Seen p → (ps : List Start) → P ps → P (p ∷ ps)) where
-    seen-sees : (rest : Survey) (x y : Float) (e : Evaluated) → eval x y ≡ e → Sees P rest → Sees P (seen mark eval rest x y e)
+    seen-sees : (rest : Priced (List Start)) (x y : Float) (e : Evaluated) → eval x y ≡ e → Sees P rest → Sees P (seen mark eval rest x y e)
     unfolding seen
     seen-sees rest x y Refused p h = tt
-    seen-sees rest x y (Found j) p h = after-sees P rest _ (more _ (record { jet = j; found = p; distance = refl })) h
+    seen-sees rest x y (Found j) p h =
+        after-answers _ 1 _ (mapped-answers _ _ rest (answers-map _ _ (λ ps n. more _ (record { jet = j; found = p; distance = refl }) ps) rest h))
 
-    alongV-sees : (x : Float) (ys : List Float) (below : Survey) → Sees P below → Sees P (alongV mark eval x ys below)
-    unfolding alongV
-    alongV-sees x [] below h = h
-    alongV-sees x (y ∷ ys) below h = seen-sees _ x y (eval x y) refl (alongV-sees x ys below h)
+    rowOf-sees : (x : Float) (ys : List Float) (below : Priced (List Start)) → Sees P below → Sees P (rowOf mark eval x ys below)
+    unfolding rowOf
+    rowOf-sees x [] below h = h
+    rowOf-sees x (y ∷ ys) below h = seen-sees _ x y (eval x y) refl (rowOf-sees x ys below h)
 
     survey-sees : P [] → (us vs : List Float) → Sees P (survey mark eval us vs)
     unfolding survey
     survey-sees h [] vs = h
-    survey-sees h (x ∷ us) vs = alongV-sees x vs _ (survey-sees h us vs)
+    survey-sees h (x ∷ us) vs = rowOf-sees x vs _ (survey-sees h us vs)
 
   pub survey-seen : (us vs : List Float) → Sees (All Seen) (survey mark eval us vs)
   survey-seen = survey-sees (All Seen) (λ p s ps h. (s, h)) tt
 
   -- every pair of a u value with a v value is among the points
   module _ (x y : Float) (j : Jet) where
-    abbrev Meets : Survey → Type 0
+    abbrev Meets : Priced (List Start) → Type 0
     Meets = Sees (List·Memᴰ (startAt (fromMark mark j) x y))
 
     onward : (p : Start) → Seen p → (ps : List Start) → List·Memᴰ (startAt (fromMark mark j) x y) ps → List·Memᴰ (startAt (fromMark mark j) x y) (p ∷ ps)
     onward p s ps m = List·Memᴰ·tail m
 
-  met : (x y : Float) (j : Jet) (rest : Survey) → Meets x y j (after rest (startAt (fromMark mark j) x y))
-  unfolding after
-  met x y j (stopped n) = tt
-  met x y j (surveyed ps) = List·Memᴰ·head refl
+    met : (rest : Priced (List Start)) → Meets (after 1 (mapped (λ ps. startAt (fromMark mark j) x y ∷ ps) rest))
+    unfolding after mapped
+    met (refused n) = tt
+    met (answered ps n) = List·Memᴰ·head refl
 
-  alongV-meets : (x y : Float) (j : Jet) → eval x y ≡ Found j → (ys : List Float) (below : Survey) → List·Memᴰ y ys → Meets x y j (alongV mark eval x ys below)
-  unfolding alongV seen
-  alongV-meets x y j p (z ∷ ys) below (List·Memᴰ·head e) = rw (← e) (rw p (met x y j (alongV mark eval x ys below)))
-  alongV-meets x y j p (z ∷ ys) below (List·Memᴰ·tail m) =
-      seen-sees _ (onward x y j) _ x z (eval x z) refl (alongV-meets x y j p ys below m)
+  rowOf-meets : (x y : Float) (j : Jet) → eval x y ≡ Found j → (ys : List Float) (below : Priced (List Start)) → List·Memᴰ y ys → Meets x y j (rowOf mark eval x ys below)
+  unfolding rowOf seen
+  rowOf-meets x y j p (z ∷ ys) below (List·Memᴰ·head e) = rw (← e) (rw p (met x y j (rowOf mark eval x ys below)))
+  rowOf-meets x y j p (z ∷ ys) below (List·Memᴰ·tail m) =
+      seen-sees _ (onward x y j) _ x z (eval x z) refl (rowOf-meets x y j p ys below m)
 
   pub survey-meets : (x y : Float) (j : Jet) → eval x y ≡ Found j → (us vs : List Float) → List·Memᴰ x us → List·Memᴰ y vs → Meets x y j (survey mark eval us vs)
   unfolding survey
-  survey-meets x y j p (z ∷ us) vs (List·Memᴰ·head e) m = rw (← e) (alongV-meets x y j p vs (survey mark eval us vs) m)
-  survey-meets x y j p (z ∷ us) vs (List·Memᴰ·tail l) m = alongV-sees _ (onward x y j) z vs _ (survey-meets x y j p us vs l m)
+  survey-meets x y j p (z ∷ us) vs (List·Memᴰ·head e) m = rw (← e) (rowOf-meets x y j p vs (survey mark eval us vs) m)
+  survey-meets x y j p (z ∷ us) vs (List·Memᴰ·tail l) m = rowOf-sees _ (onward x y j) z vs _ (survey-meets x y j p us vs l m)
 
 -- ---- the starts
 

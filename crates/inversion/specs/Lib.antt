@@ -1,5 +1,4 @@
 pub mod Inversion
-pub mod Search
 pub mod Compute
 pub mod Nearest
 pub mod GridLaws

@@ -1,7 +1,7 @@
 -- Demand 3 on a surface that passed its checks and a finite mark: what the laws for any evaluation ask of it holds. Assumes nothing.
 use mathlib.Core.Path.{_≡_}
 use mathlib.Core.Bool.{Bool, true, false}
-use mathlib.Core.List.{List·Memᴰ, _++_}
+use mathlib.Core.List.{List·Memᴰ}
 use Prim.Native.Nat.{ℕ}
 use native.Mathlib.Omega.{arith}
 use lib.ListN.{length}
@@ -9,30 +9,35 @@ use lib.Ieee.{Float, isNan, le}
 use Rattle.float64.specs.Order.{lt→le}
 use Rattle.vector3.specs.declared.Vector3.{Vector3}
 use Rattle.vector3.specs.Laws.{Finite}
+use Rattle.price.specs.Price.{price}
+use Rattle.price.specs.PriceLaws.{Between, Answers, answers-map}
 use Rattle.patch.specs.declared.Jet.{Jet}
 use Rattle.patch.specs.declared.Evaluated.the-variants.{Found}
+use Rattle.patch.specs.Patch.{fromMark}
 use Rattle.spline.specs.KnotLaws.{accepted}
 use Rattle.spline.specs.Knots.{Axis, low, high, refusalOfKnots}
 use Rattle.surface.specs.Surface.{Surface, axisU, axisV, refusalOfSurface, evaluateBy}
 use Rattle.surface.specs.SurfaceLaws.{accepted-surface}
 use Rattle.surface.specs.EvaluateLaws.{evaluate-numbers, evaluate-clamped}
-use Rattle.newton.specs.Run.{into, fromMark, nudges}
-use Rattle.newton.specs.RunLaws.{Between}
+use Rattle.surface.specs.Intervals.{domainOf}
+use Rattle.newton.specs.declared.End.{End}
+use Rattle.newton.specs.Run.{clampInto, nudges}
+use Rattle.newton.specs.RunLaws.{Ends}
 use Rattle.seeds.specs.declared.Start.{Start}
 use Rattle.seeds.specs.Axis.{valuesOf}
 use Rattle.seeds.specs.AxisLaws.{axis-count}
 use Rattle.seeds.specs.Finite.{from-mark-number}
 use Rattle.inversion.specs.declared.Hint.{Hint}
-use Rattle.inversion.specs.Inversion.{end, price, domainOf, inversionBy}
+use Rattle.inversion.specs.Inversion.{led, inversionBy}
 use Rattle.inversion.specs.Nearest.{Nearest, First}
 use Rattle.inversion.specs.PriceLaws as Prices
 use Rattle.inversion.specs.InversionLaws as Plain
-use Rattle.inversion.specs.InversionLaws.{Pairs, pairs-map, far}
+use Rattle.inversion.specs.InversionLaws.{far}
 use Rattle.inversion.specs.GridLaws.{away}
 
 -- an axis without the flag holds the pair in its knot domain
-abbrev pub Within : Bool → Axis → Float → Type 0
-Within periodic a x = periodic ≡ false → (le (low a) x ≡ true) × (le x (high a) ≡ true)
+abbrev pub InDomain : Bool → Axis → Float → Type 0
+InDomain periodic a t = periodic ≡ false → (le (low a) t ≡ true) × (le t (high a) ≡ true)
 
 counted : (a : Axis) → refusalOfKnots a ≡ 0 → Between 1 (length (valuesOf a)) 193
 counted a ok = let c = axis-count a ok in record { above = omega (arith, c .0); under = c .1 }
@@ -50,43 +55,43 @@ module _ (s : Surface) (m : Float) (ok : refusalOfSurface s ≡ 0) where
 
   -- "Before that shift, axes without the periodic flag stay in their knot domain"
   pub in-domain : (mark : Vector3) (hint : Hint) (tolerance : Float)
-      → Pairs (λ x y n. Within (s .shape .u .periodic) (axisU s) x × Within (s .shape .v .periodic) (axisV s) y) (inversionBy s m mark hint tolerance)
-  unfolding inversionBy domainOf
+      → Ends (λ e. InDomain (s .shape .u .periodic) (axisU s) (e .u) × InDomain (s .shape .v .periodic) (axisV s) (e .v)) (inversionBy s m mark hint tolerance)
+  unfolding inversionBy
   in-domain mark hint tolerance =
       let a = accepted-surface s ok in
-      pairs-map _ _ (λ x y n h. ((λ f. h .0 f (ends-in-order (axisU s) (a .knots-u))), (λ f. h .1 f (ends-in-order (axisV s) (a .knots-v)))))
+      answers-map _ _ (λ e n h. ((λ f. h .0 f (ends-in-order (axisU s) (a .knots-u))), (λ f. h .1 f (ends-in-order (axisV s) (a .knots-v)))))
       (inversionBy s m mark hint tolerance)
       (Plain.in-domain (domainOf s) mark (evaluateBy s m) (valuesOf (axisU s)) (valuesOf (axisV s)) (evaluate-numbers s m) hint tolerance)
 
   -- no pair is a NaN
-  pub pair-number : (mark : Vector3) (hint : Hint) (tolerance : Float) → Pairs (λ x y n. (isNan x ≡ false) × (isNan y ≡ false)) (inversionBy s m mark hint tolerance)
+  pub pair-number : (mark : Vector3) (hint : Hint) (tolerance : Float) → Ends (λ e. (isNan (e .u) ≡ false) × (isNan (e .v) ≡ false)) (inversionBy s m mark hint tolerance)
   unfolding inversionBy
   pair-number mark hint tolerance = Plain.pair-number (domainOf s) mark (evaluateBy s m) (valuesOf (axisU s)) (valuesOf (axisV s)) (evaluate-numbers s m) hint tolerance
 
   module _ (mark : Vector3) (finite : Finite mark) where
-    number : (x y : Float) (j : Jet) → evaluateBy s m x y ≡ Found j → isNan (fromMark mark j) ≡ false
+    number : (u v : Float) (j : Jet) → evaluateBy s m u v ≡ Found j → isNan (fromMark mark j) ≡ false
     number = from-mark-number s m mark finite
 
-    clamped : (x y : Float) (j : Jet) → evaluateBy s m x y ≡ Found j → evaluateBy s m (into (domainOf s .u) x) (into (domainOf s .v) y) ≡ Found j
-    unfolding domainOf into
-    clamped x y j h = evaluate-clamped s m x y j h ok
+    clamped : (u v : Float) (j : Jet) → evaluateBy s m u v ≡ Found j → evaluateBy s m (clampInto (domainOf s .u) u) (clampInto (domainOf s .v) v) ≡ Found j
+    unfolding clampInto
+    clamped u v j h = evaluate-clamped s m u v j h ok
 
     -- how an inversion chose, where it did not take the hint run's end as it was
-    abbrev pub Chosen : Float → Hint → Float → Float → ℕ → Type 0
+    abbrev pub Chosen : Float → Hint → End → ℕ → Type 0
     Chosen = Plain.Chosen (domainOf s) mark (evaluateBy s m) (valuesOf (axisU s)) (valuesOf (axisV s))
 
-    module _ {tolerance : Float} {hint : Hint} {x y : Float} {n : ℕ} (c : Chosen tolerance hint x y n) where
+    module _ {tolerance : Float} {hint : Hint} {e : End} {n : ℕ} (c : Chosen tolerance hint e n) where
       -- "Otherwise it is the nearest of the ends of the hint's run, if any, and of the runs from the first six .. ; the hint wins ties, then the earlier"
-      pub nearest-end : First far (end x y (c .distance)) (c .lead ++ c .others)
+      pub nearest-end : First far e (led (c .lead) (c .others))
       nearest-end = Plain.ties (domainOf s) mark (evaluateBy s m) (valuesOf (axisU s)) (valuesOf (axisV s)) number c
 
       -- "every grid point is at least as far as the pair, unless the run from the nearest, the first in the grid among equals, was nudged"
       pub grid-no-nearer : (p : Start) → Nearest away p (c .points) → nudges (domainOf s) mark (evaluateBy s m) (p .u) (p .v) ≡ false
-          → (a b : Float) → List·Memᴰ a (valuesOf (axisU s)) → List·Memᴰ b (valuesOf (axisV s)) → (j : Jet) → evaluateBy s m a b ≡ Found j → le (c .distance) (fromMark mark j) ≡ true
+          → (u v : Float) → List·Memᴰ u (valuesOf (axisU s)) → List·Memᴰ v (valuesOf (axisV s)) → (j : Jet) → evaluateBy s m u v ≡ Found j → le (far e) (fromMark mark j) ≡ true
       grid-no-nearer = Plain.grid-no-nearer (domainOf s) mark (evaluateBy s m) (valuesOf (axisU s)) (valuesOf (axisV s)) number clamped c
 
   -- the pair is the hint run's end within the tolerance, or it was chosen among the ends
   pub paired : (mark : Vector3) (hint : Hint) (tolerance : Float)
-      → Pairs (Plain.Paired (domainOf s) mark (evaluateBy s m) (valuesOf (axisU s)) (valuesOf (axisV s)) tolerance hint) (inversionBy s m mark hint tolerance)
+      → Answers (Plain.Paired (domainOf s) mark (evaluateBy s m) (valuesOf (axisU s)) (valuesOf (axisV s)) tolerance hint) (inversionBy s m mark hint tolerance)
   unfolding inversionBy
   paired mark hint tolerance = Plain.plainSteps-paired (domainOf s) mark (evaluateBy s m) (valuesOf (axisU s)) (valuesOf (axisV s)) tolerance hint

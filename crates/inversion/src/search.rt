@@ -1,99 +1,89 @@
 // The runs from the starts, and the nearest of their ends.
-use crate::Inverted;
-use newton::Domain;
+use crate::Best;
+use crate::Lead;
+use newton::End;
 use newton::Outcome;
 use newton::run;
-use scaled::Scaling;
+use scaled::Accepted;
 use seeds::Starts;
-use surface::Shape;
 use vector3::Vector3;
 ghost use mathlib.Core.Path.{_≡_};
 ghost use mathlib.Core.List.{[]};
 ghost use Prim.Native.Nat.{_≤_};
-ghost use Rattle.surface.specs.Surface.{surface, evaluateBy};
-ghost use Rattle.scaled.specs.Scaled.{Scaled};
-ghost use Rattle.seeds.specs.Insert.{held};
-ghost use Rattle.inversion.specs.Inversion.{done, runs, concluded, spend};
-ghost use Rattle.inversion.specs.Search.{kept, ledBy};
-
-// The nearest end so far, with its distance.
-pub enum Best {
-    Nothing,
-    At(f64, f64, f64),
-}
+ghost use Rattle.price.specs.Price.{after, spend};
+ghost use Rattle.surface.specs.Surface.{evaluateBy};
+ghost use Rattle.surface.specs.Lent.{surfaceOf, atEntry};
+ghost use Rattle.scaled.specs.Accepted.{Accepts};
+ghost use Rattle.seeds.specs.Insert.{startsIn};
+ghost use Rattle.newton.specs.Run.{outcomeOf};
+ghost use Rattle.inversion.specs.Inversion.{led, choose, searched, kept};
 
 // Of two ends as far the earlier is kept.
-fn keep(best: Best, x: f64, y: f64, distance: f64) -> Best
-    ensures { λ r. ⌜ r ≡ kept best x y distance ⌝ }
+fn keep(best: Best, end: End) -> Best
+    ensures { λ r. ⌜ r ≡ kept best end ⌝ }
 {
-    let Best::At(_, _, least) = best else {
-        return Best::At(x, y, distance);
+    let Best::At(nearest) = best else {
+        return Best::At(end);
     };
-    if distance < least {
-        return Best::At(x, y, distance);
+    if end.distance < nearest.distance {
+        return Best::At(end);
     }
     best
 }
 
 // The end that is kept, for so many units more.
-fn conclude(best: Best, taken: u64, more: u64, budget: u64) -> Inverted
+fn conclude(best: Best, taken: u64, more: u64, budget: u64) -> Outcome
     requires { ⌜ taken ≤ budget ⌝ }
-    ensures { λ r. ⌜ r ≡ spend budget (concluded taken more (ledBy best (done [] 0))) ⌝ }
+    ensures { λ r. ⌜ r ≡ outcomeOf (spend budget (after taken (choose more (led best [])))) ⌝ }
 {
-    let Best::At(x, y, _) = best else {
-        return Inverted::Refused(taken);
+    let Best::At(end) = best else {
+        return Outcome::Refused(taken);
     };
     if budget - taken < more {
-        return Inverted::Spent;
+        return Outcome::Spent;
     }
-    Inverted::Pair(x, y, taken + more)
+    Outcome::Ended(end, taken + more)
 }
 
-// A run from each start. Units were taken before, and more are charged at the end.
+// A run from each start.
 pub(crate) fn search(
-    shape: Shape,
+    accepted: Accepted,
     ku: &[f64],
     kv: &[f64],
     controls: &[f64],
     weights: &[f64],
-    scale: Scaling,
-    domain: Domain,
     mark: Vector3,
     starts: Starts,
-    first: Best,
-    before: u64,
-    more: u64,
+    lead: Lead,
     budget: u64,
-) -> Inverted
-    requires { ⌜ Scaled (surface shape (now ku) (now kv) (now controls) (now weights)) scale × (starts .count ≤ 6) × (before ≤ budget) ⌝ }
-    ensures { λ r. ⌜ r ≡ spend budget (concluded before more (ledBy first (runs domain mark (evaluateBy (surface shape (now (ku .entry)) (now (kv .entry)) (now (controls .entry)) (now (weights .entry))) (scale .largest)) (held starts)))) ⌝ }
+) -> Outcome
+    requires { ⌜ Accepts (surfaceOf (accepted .shape) ku kv controls weights) accepted × (starts .count ≤ 6) × (lead .taken ≤ budget) ⌝ }
+    ensures { λ r. ⌜ r ≡ outcomeOf (spend budget (after (lead .taken) (searched (accepted .domain) mark (evaluateBy (atEntry (accepted .shape) ku kv controls weights) (accepted .largest)) (lead .best) (lead .again) (startsIn starts)))) ⌝ }
 {
     let at = starts.at;
-    let count = starts.count;
-    let mut best = first;
-    let mut taken = before;
-    for i in 0..count {
+    let mut best = lead.best;
+    let mut taken = lead.taken;
+    for i in 0..starts.count {
         let start = at[i];
+        let left = budget - taken;
         match run(
-            shape,
+            accepted,
             ku,
             kv,
             controls,
             weights,
-            scale,
-            domain,
             mark,
             start.u,
             start.v,
-            budget - taken,
+            left,
         ) {
-            Outcome::Spent => return Inverted::Spent,
-            Outcome::Refused(units) => return Inverted::Refused(taken + units),
-            Outcome::Ended(x, y, distance, units) => {
-                best = keep(best, x, y, distance);
+            Outcome::Spent => return Outcome::Spent,
+            Outcome::Refused(units) => return Outcome::Refused(taken + units),
+            Outcome::Ended(end, units) => {
+                best = keep(best, end);
                 taken += units;
             }
         }
     }
-    conclude(best, taken, more, budget)
+    conclude(best, taken, lead.again, budget)
 }

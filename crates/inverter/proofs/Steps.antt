@@ -5,25 +5,24 @@ use Prim.Native.Nat.{ℕ, zero, suc}
 use lib.Ieee.{Float}
 use Rattle.surface.specs.declared.Checked.{Checked}
 use Rattle.surface.specs.declared.Checked.the-variants as Check
-use Rattle.surface.specs.Surface.{Surface, checked}
-use Rattle.chart.specs.declared.Placing.{Placing}
-use Rattle.chart.specs.declared.Placing.the-variants.{Refusal}
+use Rattle.inverter.specs.declared.Components.{Components}
+use Rattle.inverter.specs.declared.Components.the-variants.{Refusal}
 use Rattle.inverter.specs.Inverter.{onChecked, charged}
 
 -- ---- the surface's checks, whatever is done on a surface that passes
 
-module _ (s : Surface) (f : Float → Placing) {c : Checked} (e : c ≡ checked s) where
-  pub refused : {n : ℕ} → c ≡ Check.Refusal n → Refusal n 0 ≡ onChecked (checked s) f
+module _ {A : Type 0} (refuse : ℕ → A) (f : Float → A) {c : Checked} where
+  pub refused : {n : ℕ} → c ≡ Check.Refusal n → refuse n ≡ onChecked refuse c f
   unfolding onChecked
-  refused h = simp (← e, h)
+  refused h = rw h
 
-  pub passed : {m : Float} → c ≡ Check.Scale m → {r : Placing} → r ≡ f m → r ≡ onChecked (checked s) f
+  pub passed : {m : Float} → c ≡ Check.Scale m → {r : A} → r ≡ f m → r ≡ onChecked refuse c f
   unfolding onChecked
-  passed h q = q ∙ simp (← e, h)
+  passed h q = q ∙ rw h
 
 -- ---- a call of one unit
 
-module _ {b sound : Bool} (e : b ≡ sound) (p : Placing) where
+module _ {b sound : Bool} (e : b ≡ sound) (p : Components) where
   pub unsound : (budget : ℕ) → b ≡ false → Refusal 7 0 ≡ charged sound budget p
   unfolding charged
   unsound budget h = simp (← e, h)
@@ -32,7 +31,7 @@ module _ {b sound : Bool} (e : b ≡ sound) (p : Placing) where
   unfolding charged
   unpaid budget h z = simp (← e, h, z)
 
-  pub paid : (budget : ℕ) → b ≡ true → (budget ≡ 0 → ⊥) → {r : Placing} → r ≡ p → r ≡ charged sound budget p
+  pub paid : (budget : ℕ) → b ≡ true → (budget ≡ 0 → ⊥) → {r : Components} → r ≡ p → r ≡ charged sound budget p
   unfolding charged
   paid zero h n q = absurd (n refl)
   paid (suc k) h n q = q ∙ simp (← e, h)

@@ -1,27 +1,32 @@
 -- Demand 3 of the call itself: one price and one result whatever the budget; and what a shift by periods moves by. Assumes nothing.
 use mathlib.Core.Path.{_≡_, refl, ap, _∙_}
-use mathlib.Core.Bool.{true}
+use mathlib.Core.Bool.{Bool, true, false}
 use mathlib.Core.Logic.{_⊎_, inl, inr}
-use Prim.Native.Nat.{ℕ, _-_, _≤_, _<_}
+use Prim.Native.Nat.{ℕ, zero, suc, _-_, _≤_, _<_}
 use native.Mathlib.Nat.{sub-self}
+use native.Mathlib.Omega.{arith}
+use lib.Dec.{leb}
 use lib.Ieee.{Float, binary64}
 use lib.Ieee.Fits.{div-fits}
+use borrow.Author.Tests.{leb-true, leb-false}
 use Rattle.float64.specs.Operators.{_⊕_, _⊖_, _⊗_, _⊘_}
 use Rattle.float64.specs.Functions.{roundAway}
 use Rattle.float64.specs.RoundLaws.{round-away-twice}
 use Rattle.vector3.specs.declared.Vector3.{Vector3}
+use Rattle.surface.specs.declared.Checked.{Checked}
+use Rattle.surface.specs.declared.Checked.the-variants as Check
 use Rattle.surface.specs.Surface.{Surface, scaleOf, refusalOfSurface, judged, checked}
-use Rattle.newton.specs.RunLaws.{Between}
-use Rattle.inversion.specs.declared.Hint.{Hint}
-use Rattle.inversion.specs.declared.Hint.the-variants.{Nothing, At}
-use Rattle.inversion.specs.Inversion.{Answer, refusal, pair, told, spend, inversionBy}
-use Rattle.inversion.specs.Inversion as Inversion
-use Rattle.inversion.specs.PriceLaws.{spend-enough, spend-short}
+use Rattle.price.specs.Price.{Priced, refused, answered, Paid, paid, spend}
+use Rattle.price.specs.Price as Price
+use Rattle.price.specs.PriceLaws.{Between, spend-enough, spend-short}
+use Rattle.newton.specs.declared.End.{End}
+use Rattle.newton.specs.Run.{outcomeOf}
+use Rattle.inversion.specs.Inversion.{inversionBy}
 use Rattle.inversion.specs.SurfaceLaws.{price-bounds}
-use Rattle.chart.specs.declared.Period.{Period}
+use Rattle.chart.specs.declared.Terms.{Terms}
 use Rattle.chart.specs.declared.Placing.{Placing}
-use Rattle.chart.specs.declared.Placing.the-variants.{Refusal}
-use Rattle.chart.specs.Chart.{soundSearch, nearestTo, turned, outcome, searched, numberOf, leftOf}
+use Rattle.chart.specs.declared.Placing.the-variants.{Pair, Refusal}
+use Rattle.chart.specs.Chart.{soundSearch, nearestTo, turned, placingOf, placedBy, takenOf, numberOf, leftOf}
 use Rattle.inverter.specs.Inverter.{onChecked, placed}
 
 -- ---- the budget
@@ -38,61 +43,113 @@ pub record OnePrice (answer : ℕ → Placing) : Type 0 where
   -- with less refusal 8 and 0 left
   pub short : (budget : ℕ) → budget < price → (numberOf (answer budget) ≡ 8) × (leftOf budget (answer budget) ≡ 0)
 
-module _ (hint : Hint) (pu pv : Period) where
-  abbrev resultOf : Answer → Placing
-  resultOf a = outcome 0 hint pu pv (told a)
+module _ (terms : Terms) where
+  abbrev resultOf : Priced End → Placing
+  resultOf p = placingOf 0 terms (outcomeOf (paid p))
 
-  told-result : (budget : ℕ) (a : Answer) → outcome budget hint pu pv (told a) ≡ resultOf a
-  unfolding outcome told
-  told-result budget (refusal n) = refl
-  told-result budget (pair x y n) = refl
+  paid-result : (budget : ℕ) (p : Priced End) → placingOf budget terms (outcomeOf (paid p)) ≡ resultOf p
+  unfolding placingOf outcomeOf
+  paid-result budget (refused n) = refl
+  paid-result budget (answered e n) = refl
 
-  turned-number : (h : Hint) (x y : Float) (n : ℕ) → numberOf (turned h pu pv x y n) ≡ 0
-  unfolding turned numberOf
-  turned-number Nothing x y n = refl
-  turned-number (At a b) x y n = refl
+  result-number : (p : Priced End) → (numberOf (resultOf p) ≡ 0) ⊎ (numberOf (resultOf p) ≡ 9)
+  unfolding placingOf outcomeOf numberOf
+  result-number (refused n) = inr refl
+  result-number (answered e n) = inl refl
 
-  turned-left : (budget : ℕ) (h : Hint) (x y : Float) (n : ℕ) → leftOf budget (turned h pu pv x y n) ≡ budget - n
-  unfolding turned leftOf
-  turned-left budget Nothing x y n = refl
-  turned-left budget (At a b) x y n = refl
+  result-left : (budget : ℕ) (p : Priced End) → leftOf budget (resultOf p) ≡ budget - Price.price p
+  unfolding placingOf outcomeOf leftOf
+  result-left budget (refused n) = refl
+  result-left budget (answered e n) = refl
 
-  result-number : (a : Answer) → (numberOf (resultOf a) ≡ 0) ⊎ (numberOf (resultOf a) ≡ 9)
-  unfolding outcome told numberOf
-  result-number (refusal n) = inr refl
-  result-number (pair x y n) = inl (turned-number hint x y n)
+  module _ (s : Surface) (ok : refusalOfSurface s ≡ 0) (mark : Vector3) (sound : soundSearch mark terms ≡ true) where
+    abbrev steps : Priced End
+    steps = inversionBy s (scaleOf s) mark (terms .hint) (terms .tolerance)
 
-  result-left : (budget : ℕ) (a : Answer) → leftOf budget (resultOf a) ≡ budget - Inversion.price a
-  unfolding outcome told leftOf
-  result-left budget (refusal n) = refl
-  result-left budget (pair x y n) = turned-left budget hint x y n
-
-  module _ (s : Surface) (ok : refusalOfSurface s ≡ 0) (mark : Vector3) (tolerance : Float) (sound : soundSearch mark hint tolerance pu pv ≡ true) where
-    abbrev steps : Answer
-    steps = inversionBy s (scaleOf s) mark hint tolerance
-
-    answer-is : (budget : ℕ) → placed s mark hint tolerance pu pv budget ≡ outcome budget hint pu pv (spend budget steps)
-    unfolding placed checked judged onChecked searched
+    answer-is : (budget : ℕ) → placed s mark terms budget ≡ placingOf budget terms (outcomeOf (spend budget steps))
+    unfolding placed checked judged onChecked placedBy
     answer-is budget = simp (ok, sound)
 
-    answer-enough : (budget : ℕ) → Inversion.price steps ≤ budget → placed s mark hint tolerance pu pv budget ≡ resultOf steps
-    answer-enough budget h = answer-is budget ∙ ap (outcome budget hint pu pv) (spend-enough budget steps h) ∙ told-result budget steps
+    answer-enough : (budget : ℕ) → Price.price steps ≤ budget → placed s mark terms budget ≡ resultOf steps
+    answer-enough budget h = answer-is budget ∙ ap (λ (p : Paid End). placingOf budget terms (outcomeOf p)) (spend-enough budget steps h) ∙ paid-result budget steps
 
-    answer-short : (budget : ℕ) → budget < Inversion.price steps → placed s mark hint tolerance pu pv budget ≡ Refusal 8 budget
-    unfolding outcome
-    answer-short budget h = answer-is budget ∙ ap (outcome budget hint pu pv) (spend-short budget steps h)
+    answer-short : (budget : ℕ) → budget < Price.price steps → placed s mark terms budget ≡ Refusal 8 budget
+    unfolding placingOf outcomeOf
+    answer-short budget h = answer-is budget ∙ ap (λ (p : Paid End). placingOf budget terms (outcomeOf p)) (spend-short budget steps h)
 
     -- "one price, .. 1 to 37,513, whatever its budget: with that much or more it gives the same result and takes exactly the price, with less refusal 8 and 0 left"
-    pub one-price : OnePrice (placed s mark hint tolerance pu pv)
+    pub one-price : OnePrice (placed s mark terms)
     unfolding numberOf leftOf
     one-price = record {
-      price = Inversion.price steps;
-      bounds = price-bounds s (scaleOf s) ok mark hint tolerance;
+      price = Price.price steps;
+      bounds = price-bounds s (scaleOf s) ok mark (terms .hint) (terms .tolerance);
       result = resultOf steps;
       number = result-number steps;
       enough = λ budget h. (answer-enough budget h, result-left budget steps);
       short = λ budget h. (ap numberOf (answer-short budget h), ap (leftOf budget) (answer-short budget h) ∙ sub-self budget);
     }
+
+-- ---- what an answer can be, whatever Q is to hold of it
+
+module _ (Q : Placing → Type 0) (s : Surface) (mark : Vector3) (terms : Terms) (budget : ℕ) where
+  pub record Cases : Type 0 where
+    pub unfit : (n : ℕ) → checked s ≡ Check.Refusal n → Q (Refusal n 0)
+    pub seven : Q (Refusal 7 0)
+    pub eight : Q (Refusal 8 budget)
+    pub nine : (n : ℕ) → n ≤ budget → Q (Refusal 9 n)
+    pub pair : (m : Float) → checked s ≡ Check.Scale m → (e : End) (n : ℕ) → n ≤ budget → inversionBy s m mark (terms .hint) (terms .tolerance) ≡ answered e n → Q (Pair (turned terms e) n)
+
+  module _ (q : Cases) where
+    paid-by : (m : Float) → checked s ≡ Check.Scale m → (p : Priced End) → inversionBy s m mark (terms .hint) (terms .tolerance) ≡ p → Price.price p ≤ budget → Q (placingOf budget terms (outcomeOf (paid p)))
+    unfolding placingOf outcomeOf
+    paid-by m k (refused n) w h = q .nine n h
+    paid-by m k (answered e n) w h = q .pair m k e n h w
+
+    spend-by : (m : Float) → checked s ≡ Check.Scale m → (p : Priced End) → inversionBy s m mark (terms .hint) (terms .tolerance) ≡ p → Q (placingOf budget terms (outcomeOf (spend budget p)))
+    unfolding placingOf outcomeOf
+    spend-by m k p w = by (leb (Price.price p) budget) refl
+      where
+        by : (t : Bool) → leb (Price.price p) budget ≡ t → Q (placingOf budget terms (outcomeOf (spend budget p)))
+        by true h = let l = leb-true (Price.price p) budget h in rw (spend-enough budget p l) (paid-by m k p w l)
+        by false h = rw (spend-short budget p (leb-false (Price.price p) budget h)) (q .eight)
+
+    sound-by : (m : Float) → checked s ≡ Check.Scale m → (t : Bool) → Q (placedBy s m mark terms budget t)
+    unfolding placedBy
+    sound-by m k true = spend-by m k (inversionBy s m mark (terms .hint) (terms .tolerance)) refl
+    sound-by m k false = q .seven
+
+    pub placed-by-cases : Q (placed s mark terms budget)
+    unfolding placed onChecked
+    placed-by-cases = by (checked s) refl
+      where
+        by : (c : Checked) → checked s ≡ c → Q (onChecked (λ n. Refusal n 0) c (λ m. placedBy s m mark terms budget (soundSearch mark terms)))
+        by (Check.Refusal n) k = q .unfit n k
+        by (Check.Scale m) k = sound-by m k (soundSearch mark terms)
+
+-- ---- it takes no more than its budget, and its refusal has a number
+
+abbrev pub Numbered : Placing → Type 0
+Numbered (Pair e n) = Unit {0}
+Numbered (Refusal number n) = 1 ≤ number
+
+pub refusal-number : (s : Surface) (n : ℕ) → checked s ≡ Check.Refusal n → (refusalOfSurface s ≡ n) × (1 ≤ n)
+unfolding checked judged
+refusal-number s n h = by (refusalOfSurface s) h
+  where
+    by : (k : ℕ) → judged (scaleOf s) k ≡ Check.Refusal n → (k ≡ n) × (1 ≤ n)
+    by zero h = absurd (let z : _≡_ {A = ℕ} 0 1 = cc in omega arith)
+    by (suc k) h = let e : suc k ≡ n = cc in (e, omega arith)
+
+pub placed-sound : (s : Surface) (mark : Vector3) (terms : Terms) (budget : ℕ) → (takenOf (placed s mark terms budget) ≤ budget) × Numbered (placed s mark terms budget)
+placed-sound s mark terms budget =
+    placed-by-cases (λ g. (takenOf g ≤ budget) × Numbered g) s mark terms budget
+    (record {
+      unfit = λ n h. (omega arith, refusal-number s n h .1);
+      seven = (omega arith, omega arith);
+      eight = (omega arith, omega arith);
+      nine = λ n l. (l, omega arith);
+      pair = λ m k e n l w. (l, tt);
+    })
 
 -- ---- the shift by periods
 

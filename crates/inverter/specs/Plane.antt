@@ -2,10 +2,9 @@
 use Prim.Native.Nat.{ℕ}
 use mathlib.Core.Bool.{Bool, _&&_}
 use Rattle.vector3.specs.declared.Vector3.{Vector3}
-use Rattle.vector3.specs.Vector3.{sub, dot}
-use Rattle.patch.specs.Patch.{finiteVector}
-use Rattle.chart.specs.declared.Placing.{Placing}
-use Rattle.chart.specs.declared.Placing.the-variants.{Pair}
+use Rattle.vector3.specs.Vector3.{sub, dot, finiteVector}
+use Rattle.inverter.specs.declared.Components.{Components}
+use Rattle.inverter.specs.declared.Components.the-variants.{Along}
 use Rattle.inverter.specs.declared.plane.Frame.{Frame}
 use Rattle.inverter.specs.Inverter.{charged}
 
@@ -13,10 +12,10 @@ unfoldable pub soundPlane : Frame → Vector3 → Bool
 soundPlane f mark = finiteVector (f .origin) && finiteVector (f .x) && finiteVector (f .y) && finiteVector mark
 
 -- the mark's coordinates in the frame
-unfoldable pub localOf : Frame → Vector3 → Placing
+unfoldable pub localOf : Frame → Vector3 → Components
 localOf f mark =
     let d = sub mark (f .origin) in
-    Pair (dot d (f .x)) (dot d (f .y)) 1
+    Along (dot d (f .x)) (dot d (f .y))
 
-unfoldable pub placedOn : Frame → Vector3 → ℕ → Placing
+unfoldable pub placedOn : Frame → Vector3 → ℕ → Components
 placedOn f mark budget = charged (soundPlane f mark) budget (localOf f mark)

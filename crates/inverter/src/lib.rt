@@ -2,21 +2,25 @@
 mod plane;
 mod preimage;
 
-use chart::Period;
 use chart::Placing;
+use chart::Terms;
 use chart::invert_checked;
-use inversion::Hint;
 pub use plane::Frame;
 pub use plane::invert_plane;
 pub use preimage::derivative;
-use scaled::scaling_of;
-use surface::Checked;
+use scaled::Acceptance;
+use scaled::accept;
 use surface::Shape;
-use surface::check;
 use vector3::Vector3;
 ghost use mathlib.Core.Path.{_≡_};
-ghost use Rattle.surface.specs.Surface.{surface};
+ghost use Rattle.surface.specs.Lent.{atEntry};
 ghost use Rattle.inverter.specs.Inverter.{placed};
+
+// What a call of one unit answers: the components of a vector along two others; or the number of a refusal and the units taken.
+pub enum Components {
+    Along(f64, f64),
+    Refusal(u64, u64),
+}
 
 // The surface point nearest to a mark.
 pub fn invert(
@@ -26,29 +30,21 @@ pub fn invert(
     controls: &[f64],
     weights: &[f64],
     mark: Vector3,
-    hint: Hint,
-    tolerance: f64,
-    pu: Period,
-    pv: Period,
+    terms: Terms,
     budget: u64,
 ) -> Placing
-    ensures { λ r. ⌜ r ≡ placed (surface shape (now (ku .entry)) (now (kv .entry)) (now (controls .entry)) (now (weights .entry))) mark hint tolerance pu pv budget ⌝ }
+    ensures { λ r. ⌜ r ≡ placed (atEntry shape ku kv controls weights) mark terms budget ⌝ }
 {
-    let checked = check(shape, ku, kv, controls, weights);
-    match checked {
-        Checked::Refusal(n) => Placing::Refusal(n, 0),
-        Checked::Scale(largest) => invert_checked(
-            shape,
+    match accept(shape, ku, kv, controls, weights) {
+        Acceptance::Refusal(n) => Placing::Refusal(n, 0),
+        Acceptance::Accepted(accepted) => invert_checked(
+            accepted,
             ku,
             kv,
             controls,
             weights,
-            scaling_of(ku, kv, controls, largest),
             mark,
-            hint,
-            tolerance,
-            pu,
-            pv,
+            terms,
             budget,
         ),
     }

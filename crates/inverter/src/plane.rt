@@ -1,8 +1,8 @@
 // A mark on a plane.
-use chart::Placing;
-use chart::finite_vector;
+use crate::Components;
 use vector3::Vector3;
 use vector3::dot;
+use vector3::finite_vector;
 use vector3::sub;
 ghost use mathlib.Core.Path.{_≡_};
 ghost use Rattle.inverter.specs.Plane.{soundPlane, localOf, placedOn};
@@ -24,22 +24,22 @@ fn sound_plane(frame: Frame, mark: Vector3) -> bool
         & finite_vector(mark)
 }
 
-fn local(frame: Frame, mark: Vector3) -> Placing
+fn local(frame: Frame, mark: Vector3) -> Components
     ensures { λ r. ⌜ r ≡ localOf frame mark ⌝ }
 {
     let d = sub(mark, frame.origin);
-    Placing::Pair(dot(d, frame.x), dot(d, frame.y), 1)
+    Components::Along(dot(d, frame.x), dot(d, frame.y))
 }
 
 // The coordinates of a mark in a plane's frame, for one unit.
-pub fn invert_plane(frame: Frame, mark: Vector3, budget: u64) -> Placing
+pub fn invert_plane(frame: Frame, mark: Vector3, budget: u64) -> Components
     ensures { λ r. ⌜ r ≡ placedOn frame mark budget ⌝ }
 {
     if !sound_plane(frame, mark) {
-        return Placing::Refusal(7, 0);
+        return Components::Refusal(7, 0);
     }
     if budget == 0 {
-        return Placing::Refusal(8, 0);
+        return Components::Refusal(8, 0);
     }
     local(frame, mark)
 }

@@ -6,20 +6,20 @@ use native.Mathlib.Omega.{arith}
 use lib.ListN.{length, take, drop, take-append-drop}
 use lib.Seq.{take-at, drop-at}
 use lib.Ieee.{Float}
-use Rattle.words.specs.Words.{littleEndian}
 use Rattle.digits.specs.Text.{Put, written}
 use Rattle.surface.specs.declared.Shape.{Shape}
 use Rattle.surface.specs.Surface.{surface}
-use Rattle.inversion.specs.declared.Hint.the-variants.{Nothing}
-use Rattle.chart.specs.declared.Period.the-variants.{Free}
 use Rattle.row.specs.Row.{rowed}
+use Rattle.row.specs.RowLaws.{Unshifted}
 use Rattle.job_lines.specs.Lines.{marksLine, refusedLine}
 use Rattle.job_format.specs.declared.Layout.{Layout}
 use Rattle.job_format.specs.declared.Layout.the-variants.{Malformed, WellFormed}
 use Rattle.job_format.specs.Format.{knots, controls, parse}
-use Rattle.job_format.specs.Offsets.{Fits, Laid, count, after, floatAt, floatsAt, surfaceAt, termsAt, marksAt, jobAt, told}
+use Rattle.job_format.specs.Offsets.{Fits, Laid, count, after, floatsAt, surfaceAt, marksAt, jobAt, told}
 use Rattle.job_format.specs.OffsetLaws.{floats-length, floats-split}
+use Rattle.job.specs.declared.marks.Queue.{Queue}
 use Rattle.job.specs.Printout.{rowLines, jobLines, printed, printout}
+use Rattle.job.specs.Turns.{queueAt, marksOf, Roomy}
 
 -- ---- the numbers
 
@@ -62,15 +62,18 @@ module _ (bytes : List ℕ) where
         let ws : take (d - c) (drop c numbers) ≡ floatsAt n bytes (9 + 8 * u + 8 * v + 8 * (3 * n)) = part (count shape) numbers e c n (d - c) (9 + 8 * u + 8 * v + 8 * (3 * n)) (omega arith) (omega arith) (omega arith) in
         simp (ku, kv, cs, ws)
 
-    pub job-is : (n a b c d at : ℕ) → a ≡ knots (shape .u) → b ≡ a + knots (shape .v) → c ≡ b + 3 * controls shape → d ≡ c + controls shape → at ≡ 9 + 8 * d
-        → (tolerance : Float) (budget : ℕ) → tolerance ≡ floatAt bytes (at + 2) → budget ≡ littleEndian 8 bytes (at + 10)
+    pub job-is : (n a b c d : ℕ) → a ≡ knots (shape .u) → b ≡ a + knots (shape .v) → c ≡ b + 3 * controls shape → d ≡ c + controls shape → (q : Queue) → q ≡ queueAt bytes (9 + 8 * d) n
         → marksLine n
-        ++ rowLines (rowed (surface shape (take a numbers) (take (b - a) (drop a numbers)) (take (c - b) (drop b numbers)) (take (d - c) (drop c numbers))) (marksAt n bytes (at + 18)) Nothing tolerance Free Free budget)
+        ++ rowLines (rowed (surface shape (take a numbers) (take (b - a) (drop a numbers)) (take (c - b) (drop b numbers)) (take (d - c) (drop c numbers))) (marksOf q bytes) (q .progress .terms) (q .progress .left))
         ≡ jobLines (jobAt shape n bytes)
-    unfolding jobLines jobAt termsAt
-    job-is n a b c d at ha hb hc hd hat tolerance budget ht hn =
-        let w : at ≡ after shape = omega arith in
-        rw (surface-is a b c d ha hb hc hd, ht, hn, w, marks-length n (after shape + 18))
+    unfolding jobLines jobAt
+    job-is n a b c d ha hb hc hd q hq =
+        let w : 9 + 8 * d ≡ after shape = omega arith in
+        rw (surface-is a b c d ha hb hc hd, hq, w, marks-length n (after shape + 18))
+
+-- the queue read after the surface's numbers, of a file that has room for its marks
+pub queue-fits : (bytes : List ℕ) (at n size room from : ℕ) (q : Queue) → q ≡ queueAt bytes at n → at + 18 + 26 * n ≤ size → from + 55 * (n + 1) ≤ room → Unshifted (q .progress .terms) × Roomy q size from room
+queue-fits bytes at n size room from q e h k = rw e ((refl, refl), (h, k))
 
 -- ---- the printout
 

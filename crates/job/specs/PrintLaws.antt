@@ -6,13 +6,11 @@ use native.Mathlib.Omega.{arith}
 use lib.ListN.{length, take, length-append}
 use lib.Seq.{take-at}
 use Rattle.digits.specs.Text.{ascii, digit, digits, placesIn, decimal}
-use Rattle.inversion.specs.declared.Hint.the-variants.{Nothing}
-use Rattle.chart.specs.declared.Period.the-variants.{Free}
 use Rattle.row.specs.Row.{rowed}
 use Rattle.job_lines.specs.Lines.{marksLine, refusedLine}
 use Rattle.job_format.specs.Format.{mostBytes, malformed, read, Job, parse}
 use Rattle.job_format.specs.FormatLaws.{too-long}
-use Rattle.job.specs.Printout.{mostPrinted, rowLines, jobLines, printed, printout}
+use Rattle.job.specs.Printout.{mostPrinted, rowLines, searchTerms, jobLines, printed, printout}
 
 -- "A malformed file prints only `refused 12 at 0`"
 pub malformed-prints : (bytes : List ℕ) → parse bytes ≡ malformed → printout bytes ≡ ascii "refused 12 at 0\n"
@@ -24,7 +22,7 @@ too-long-prints bytes h = malformed-prints bytes (too-long bytes h)
 
 -- "Line 1: marks in the file, decimal", then the row's lines
 pub first-line-counts : (bytes : List ℕ) (job : Job) (rest : List ℕ) → parse bytes ≡ read job rest
-    → printout bytes ≡ marksLine (length (job .marks)) ++ rowLines (rowed (job .surface) (job .marks) Nothing (job .terms .tolerance) Free Free (job .terms .budget))
+    → printout bytes ≡ marksLine (length (job .marks)) ++ rowLines (rowed (job .surface) (job .marks) (searchTerms (job .terms .tolerance)) (job .terms .budget))
 unfolding printout printed jobLines
 first-line-counts bytes job rest e = ap printed e
 

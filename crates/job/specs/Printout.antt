@@ -2,11 +2,13 @@
 use mathlib.Core.List.{List, [], _∷_, _++_}
 use Prim.Native.Nat.{ℕ}
 use lib.ListN.{length}
+use lib.Ieee.{Float}
 use Rattle.inversion.specs.declared.Hint.the-variants.{Nothing}
 use Rattle.chart.specs.declared.Period.the-variants.{Free}
-use Rattle.row.specs.declared.Ended.{Ended}
-use Rattle.row.specs.declared.Ended.the-variants as Ended
-use Rattle.row.specs.Row.{Placed, Rowed, rowed}
+use Rattle.chart.specs.declared.Terms.{Terms}
+use Rattle.row.specs.declared.RowEnd.{RowEnd}
+use Rattle.row.specs.declared.RowEnd.the-variants.{Placed, Refusal}
+use Rattle.row.specs.Row.{Entry, Rowed, rowed}
 use Rattle.job_lines.specs.Lines.{marksLine, pairLine, refusedLine}
 use Rattle.job_format.specs.Format.{Read, malformed, read, Job, parse}
 
@@ -14,23 +16,26 @@ use Rattle.job_format.specs.Format.{Read, malformed, read, Job, parse}
 abbrev pub mostPrinted : ℕ
 mostPrinted = 69632
 
-unfoldable pub pairLines : List Placed → List ℕ
+unfoldable pub pairLines : List Entry → List ℕ
 pairLines [] = []
-pairLines (p ∷ ps) = pairLine (p .u) (p .v) (p .left) ++ pairLines ps
+pairLines (p ∷ ps) = pairLine (p .end .u) (p .end .v) (p .left) ++ pairLines ps
 
 -- a refusal is the last line
-unfoldable pub lastLine : Ended → List ℕ
-lastLine (Ended.Placed left) = []
-lastLine (Ended.Refusal number index left) = refusedLine number index
+unfoldable pub lastLine : RowEnd → List ℕ
+lastLine (Placed left) = []
+lastLine (Refusal number index left) = refusedLine number index
 
 unfoldable pub rowLines : Rowed → List ℕ
 rowLines r = pairLines (r .pairs) ++ lastLine (r .ended)
 
 -- with no first hint and no periods
+abbrev pub searchTerms : Float → Terms
+searchTerms tolerance = record { hint = Nothing; tolerance = tolerance; u = Free; v = Free }
+
 unfoldable pub jobLines : Job → List ℕ
 jobLines job =
     marksLine (length (job .marks))
-    ++ rowLines (rowed (job .surface) (job .marks) Nothing (job .terms .tolerance) Free Free (job .terms .budget))
+    ++ rowLines (rowed (job .surface) (job .marks) (searchTerms (job .terms .tolerance)) (job .terms .budget))
 
 unfoldable pub printed : Read Job → List ℕ
 printed malformed = refusedLine 12 0

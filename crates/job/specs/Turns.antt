@@ -1,19 +1,29 @@
--- One mark of a job, as it is printed. Definitions only.
-use mathlib.Core.Path.{_≡_}
-use mathlib.Core.Bool.{false}
+-- The marks of a job in its file, and the line of one of them. Definitions only.
 use mathlib.Core.List.{List}
-use Prim.Native.Nat.{ℕ, _-_, _≤_}
-use lib.Ieee.{isNan}
-use Rattle.chart.specs.declared.Placing.{Placing}
-use Rattle.chart.specs.declared.Placing.the-variants.{Pair, Refusal}
-use Rattle.job_lines.specs.Lines.{pairLine, refusedLine}
+use Prim.Native.Nat.{ℕ, _+_, _*_, _≤_}
+use Rattle.vector3.specs.declared.Vector3.{Vector3}
+use Rattle.row.specs.declared.Stepped.{Stepped}
+use Rattle.row.specs.declared.Stepped.the-variants.{Placed, Refusal}
+use Rattle.job_lines.specs.Lines.{longestLine, pairLine, refusedLine}
+use Rattle.job_format.specs.Format.{termsSize, markSize}
+use Rattle.job_format.specs.Offsets.{termsAt, marksAt}
+use Rattle.job.specs.declared.marks.Queue.{Queue}
+use Rattle.job.specs.Printout.{searchTerms}
+
+-- n marks, whose records follow that of the terms, which starts at index `at`
+abbrev pub queueAt : List ℕ → ℕ → ℕ → Queue
+queueAt bytes at n =
+    let t = termsAt bytes at in
+    record { progress = record { terms = searchTerms (t .tolerance); left = t .budget }; first = at + termsSize; count = n }
+
+abbrev pub marksOf : Queue → List ℕ → List Vector3
+marksOf q bytes = marksAt (q .count) bytes (q .first)
+
+-- their records lie in a file of `size` bytes, and from an index on there is room for a line each and one more
+abbrev pub Roomy : Queue → (size from room : ℕ) → Type 0
+Roomy q size from room = (q .first + markSize * q .count ≤ size) × (from + longestLine * (q .count + 1) ≤ room)
 
 -- the line of mark number i
-unfoldable pub placingLine : ℕ → ℕ → Placing → List ℕ
-placingLine i budget (Pair u v taken) = pairLine u v (budget - taken)
-placingLine i budget (Refusal number taken) = refusedLine number i
-
--- a pair's bits are known, and what it took is in the budget
-abbrev pub Printable : ℕ → Placing → Type 0
-Printable budget (Pair u v taken) = (isNan u ≡ false) × (isNan v ≡ false) × (taken ≤ budget)
-Printable budget (Refusal number taken) = Unit
+unfoldable pub stepLine : ℕ → Stepped → List ℕ
+stepLine i (Placed e p) = pairLine (e .u) (e .v) (p .left)
+stepLine i (Refusal number left) = refusedLine number i

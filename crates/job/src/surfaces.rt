@@ -1,6 +1,8 @@
 // A job whose numbers are decoded.
+use crate::marks::Queue;
 use crate::marks::print_marks;
 use chart::Period;
+use chart::Terms;
 use chart::sound_terms;
 use inversion::Hint;
 use job_format::HEADER_SIZE;
@@ -10,24 +12,23 @@ use job_format::knots;
 use job_format::number_at;
 use job_lines::put_marks;
 use job_lines::put_refusal;
-use scaled::Scaling;
-use scaled::scaling_of;
-use surface::Checked;
+use row::Progress;
+use scaled::Acceptance;
+use scaled::Accepted;
+use scaled::accept;
 use surface::Shape;
-use surface::check;
 ghost use mathlib.Core.Path.{_≡_};
-ghost use Prim.Native.Nat.{_+_, _*_, _≤_};
+ghost use Prim.Native.Nat.{_+_, _≤_};
 ghost use lib.ListN.{length, take};
 ghost use Rattle.digits.specs.Text.{Put};
-ghost use Rattle.surface.specs.Surface.{surface};
-ghost use Rattle.scaled.specs.Scaled.{Scaled};
-ghost use Rattle.inversion.specs.declared.Hint.the-variants.{Nothing};
-ghost use Rattle.chart.specs.declared.Period.the-variants.{Free};
+ghost use Rattle.surface.specs.Lent.{surfaceOf, atEntry};
+ghost use Rattle.scaled.specs.Accepted.{Accepts};
 ghost use Rattle.row.specs.Row.{rowed};
-ghost use Rattle.job_format.specs.Format.{headerSize, markSize};
-ghost use Rattle.job_format.specs.Offsets.{Fits, count, floatsAt, marksAt, jobAt};
-ghost use Rattle.job_lines.specs.Lines.{longestLine};
+ghost use Rattle.row.specs.RowLaws.{Unshifted};
+ghost use Rattle.job_format.specs.Format.{headerSize, termsSize};
+ghost use Rattle.job_format.specs.Offsets.{Fits, count, floatsAt, jobAt};
 ghost use Rattle.job.specs.Printout.{mostPrinted, rowLines, jobLines};
+ghost use Rattle.job.specs.Turns.{queueAt, marksOf, Roomy};
 
 // The surface's numbers are at the front of those lent.
 pub(crate) fn print_decoded(
@@ -56,9 +57,7 @@ fn print_numbers(bytes: &[u8], shape: Shape, marks: usize, numbers: &[f64], out:
     let kv_end = ku_end + knots(v);
     let controls_end = kv_end + 3 * total;
     let weights_end = controls_end + total;
-    let at = HEADER_SIZE + 8 * weights_end;
-    let tolerance = number_at(bytes, at + 2);
-    let budget = words::word_at(bytes, at + 10);
+    let queue = queue_at(bytes, HEADER_SIZE + 8 * weights_end, marks);
     let from = put_marks(out, 0, marks);
     print_row(
         shape,
@@ -66,49 +65,60 @@ fn print_numbers(bytes: &[u8], shape: Shape, marks: usize, numbers: &[f64], out:
         &numbers[ku_end..kv_end],
         &numbers[kv_end..controls_end],
         &numbers[controls_end..weights_end],
-        tolerance,
+        queue,
         bytes,
-        at + TERMS_SIZE,
-        marks,
-        budget,
         out,
         from,
     )
 }
 
-// The lines after the first. The marks' records start at index `first`.
+// The record of the terms starts at index `at`: a tolerance and a budget, with no first hint and no periods.
+fn queue_at(bytes: &[u8], at: usize, marks: usize) -> Queue
+    requires { ⌜ at + termsSize ≤ length (now bytes) ⌝ }
+    ensures { λ r. ⌜ r ≡ queueAt (now (bytes .entry)) at marks ⌝ }
+{
+    let terms = Terms {
+        hint: Hint::Nothing,
+        tolerance: number_at(bytes, at + 2),
+        u: Period::Free,
+        v: Period::Free,
+    };
+    let progress = Progress {
+        terms,
+        left: words::word_at(bytes, at + 10),
+    };
+    Queue {
+        progress,
+        first: at + TERMS_SIZE,
+        count: marks,
+    }
+}
+
+// The lines after the first.
 fn print_row(
     shape: Shape,
     ku: &[f64],
     kv: &[f64],
     controls: &[f64],
     weights: &[f64],
-    tolerance: f64,
+    queue: Queue,
     bytes: &[u8],
-    first: usize,
-    marks: usize,
-    budget: u64,
     out: &mut [u8],
     from: usize,
 ) -> usize
-    requires { ⌜ (first + markSize * marks ≤ length (now bytes)) × (from + longestLine * (marks + 1) ≤ length (now out)) ⌝ }
-    ensures { λ r. ⌜ Put from (rowLines (rowed (surface shape (now (ku .entry)) (now (kv .entry)) (now (controls .entry)) (now (weights .entry))) (marksAt marks (now (bytes .entry)) first) Nothing tolerance Free Free budget)) (now (out .entry)) (now (out .exit)) r ⌝ }
+    requires { ⌜ Unshifted (queue .progress .terms) × Roomy queue (length (now bytes)) from (length (now out)) ⌝ }
+    ensures { λ r. ⌜ Put from (rowLines (rowed (atEntry shape ku kv controls weights) (marksOf queue (now (bytes .entry))) (queue .progress .terms) (queue .progress .left))) (now (out .entry)) (now (out .exit)) r ⌝ }
 {
-    let checked = check(shape, ku, kv, controls, weights);
-    match checked {
-        Checked::Refusal(n) => put_refusal(out, from, n, 0),
-        Checked::Scale(largest) => print_checked(
-            shape,
+    match accept(shape, ku, kv, controls, weights) {
+        Acceptance::Refusal(n) => put_refusal(out, from, n, 0),
+        Acceptance::Accepted(accepted) => print_checked(
+            accepted,
             ku,
             kv,
             controls,
             weights,
-            scaling_of(ku, kv, controls, largest),
-            tolerance,
+            queue,
             bytes,
-            first,
-            marks,
-            budget,
             out,
             from,
         ),
@@ -117,39 +127,22 @@ fn print_row(
 
 // On a surface that passed its checks.
 fn print_checked(
-    shape: Shape,
+    accepted: Accepted,
     ku: &[f64],
     kv: &[f64],
     controls: &[f64],
     weights: &[f64],
-    scale: Scaling,
-    tolerance: f64,
+    queue: Queue,
     bytes: &[u8],
-    first: usize,
-    marks: usize,
-    budget: u64,
     out: &mut [u8],
     from: usize,
 ) -> usize
-    requires { ⌜ Scaled (surface shape (now ku) (now kv) (now controls) (now weights)) scale × (first + markSize * marks ≤ length (now bytes)) × (from + longestLine * (marks + 1) ≤ length (now out)) ⌝ }
-    ensures { λ r. ⌜ Put from (rowLines (rowed (surface shape (now (ku .entry)) (now (kv .entry)) (now (controls .entry)) (now (weights .entry))) (marksAt marks (now (bytes .entry)) first) Nothing tolerance Free Free budget)) (now (out .entry)) (now (out .exit)) r ⌝ }
+    requires { ⌜ Accepts (surfaceOf (accepted .shape) ku kv controls weights) accepted × Unshifted (queue .progress .terms) × Roomy queue (length (now bytes)) from (length (now out)) ⌝ }
+    ensures { λ r. ⌜ Put from (rowLines (rowed (atEntry (accepted .shape) ku kv controls weights) (marksOf queue (now (bytes .entry))) (queue .progress .terms) (queue .progress .left))) (now (out .entry)) (now (out .exit)) r ⌝ }
 {
-    if !sound_terms(Hint::Nothing, tolerance, Period::Free, Period::Free) {
+    let progress = queue.progress;
+    if !sound_terms(progress.terms) {
         return put_refusal(out, from, 7, 0);
     }
-    print_marks(
-        shape,
-        ku,
-        kv,
-        controls,
-        weights,
-        scale,
-        tolerance,
-        bytes,
-        first,
-        marks,
-        budget,
-        out,
-        from,
-    )
+    print_marks(accepted, ku, kv, controls, weights, queue, bytes, out, from)
 }

@@ -91,17 +91,17 @@ surfaceNumbers shape bytes =
     floats (controls shape) rest then λ ws rest.
     read (surface shape ku kv cs ws) rest
 
-pub record Terms : Type 0 where
+pub record Limits : Type 0 where
   pub tolerance : Float
   pub budget : ℕ
 
-unfoldable pub terms : List ℕ → Read Terms
+unfoldable pub terms : List ℕ → Read Limits
 terms bytes =
     float bytes then λ x rest.
     number 8 rest then λ n rest.
     read (record { tolerance = x; budget = n }) rest
 
-unfoldable pub termsRecord : List ℕ → Read Terms
+unfoldable pub termsRecord : List ℕ → Read Limits
 termsRecord bytes = mark (ascii "TL") bytes then λ m. terms
 
 unfoldable pub point : List ℕ → Read Vector3
@@ -122,7 +122,7 @@ markRecords (suc n) bytes = markRecord bytes then λ p rest. markRecords n rest 
 
 pub record Job : Type 0 where
   pub surface : Surface
-  pub terms : Terms
+  pub terms : Limits
   pub marks : List Vector3
 
 -- no bytes left over

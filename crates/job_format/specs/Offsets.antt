@@ -7,7 +7,7 @@ use Rattle.words.specs.Words.{littleEndian}
 use Rattle.vector3.specs.declared.Vector3.{Vector3}
 use Rattle.surface.specs.declared.Shape.{Shape}
 use Rattle.surface.specs.Surface.{Surface, surface}
-use Rattle.job_format.specs.Format.{mostBytes, headerSize, termsSize, markSize, Read, malformed, read, Terms, Job, knots, controls}
+use Rattle.job_format.specs.Format.{mostBytes, headerSize, termsSize, markSize, Read, malformed, read, Limits, Job, knots, controls}
 use Rattle.job_format.specs.declared.Layout.{Layout}
 use Rattle.job_format.specs.declared.Layout.the-variants.{Malformed, WellFormed}
 
@@ -33,7 +33,7 @@ surfaceAt shape bytes =
     surface shape (floatsAt u bytes headerSize) (floatsAt v bytes (headerSize + 8 * u)) (floatsAt (3 * n) bytes (headerSize + 8 * u + 8 * v)) (floatsAt n bytes (headerSize + 8 * u + 8 * v + 8 * (3 * n)))
 
 -- the index of a record is that of its mark
-unfoldable pub termsAt : List ℕ → ℕ → Terms
+unfoldable pub termsAt : List ℕ → ℕ → Limits
 termsAt bytes at = record { tolerance = floatAt bytes (at + 2); budget = littleEndian 8 bytes (at + 10) }
 
 unfoldable pub markAt : List ℕ → ℕ → Vector3

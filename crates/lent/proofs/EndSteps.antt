@@ -6,8 +6,8 @@ use native.Mathlib.Numerals.{unary-clauses}
 use native.Mathlib.Omega.{arith}
 use lib.ListN.{length, drop, set, length-set}
 use lib.Ieee.{Float}
-use Rattle.row.specs.declared.Ended.{Ended}
-use Rattle.row.specs.declared.Ended.the-variants as Ended
+use Rattle.row.specs.declared.RowEnd.{RowEnd}
+use Rattle.row.specs.declared.RowEnd.the-variants.{Placed, Refusal}
 use Rattle.row.specs.Row.{numberOf, indexOf, leftOf}
 use Rattle.edges.specs.declared.Singular.{Singular}
 use Rattle.edges.specs.declared.Edge.{Edge}
@@ -18,16 +18,16 @@ use Rattle.lent.specs.Lent.{Tells, firstOf, flagOf, edgeAt, edgesInto}
 
 -- ---- a row's end
 
-abbrev Ends : Ended → List ℕ → List ℕ → ℕ → List ℕ → List ℕ → Type 0
+abbrev Ends : RowEnd → List ℕ → List ℕ → ℕ → List ℕ → List ℕ → Type 0
 Ends e bs ns number budget index = (number ≡ numberOf e) × ((budget ≡ firstOf (leftOf e) bs) × (index ≡ firstOf (indexOf e) ns))
 
-pub ended-placed : (bs ns : List ℕ) {e : Ended} {left : ℕ} → 1 ≤ length bs → 1 ≤ length ns → e ≡ Ended.Placed left → Ends e bs ns 0 (set bs 0 left) (set ns 0 0)
+pub ended-placed : (bs ns : List ℕ) {e : RowEnd} {left : ℕ} → 1 ≤ length bs → 1 ≤ length ns → e ≡ Placed left → Ends e bs ns 0 (set bs 0 left) (set ns 0 0)
 unfolding numberOf leftOf indexOf
 ended-placed [] ns k l h = absurd (omega arith)
 ended-placed (b ∷ bs) [] k l h = absurd (omega arith)
 ended-placed (b ∷ bs) (n ∷ ns) k l h = rw h (refl, (refl, refl))
 
-pub ended-refused : (bs ns : List ℕ) {e : Ended} {number i left : ℕ} → 1 ≤ length bs → 1 ≤ length ns → e ≡ Ended.Refusal number i left → Ends e bs ns number (set bs 0 left) (set ns 0 i)
+pub ended-refused : (bs ns : List ℕ) {e : RowEnd} {number i left : ℕ} → 1 ≤ length bs → 1 ≤ length ns → e ≡ Refusal number i left → Ends e bs ns number (set bs 0 left) (set ns 0 i)
 unfolding numberOf leftOf indexOf
 ended-refused [] ns k l h = absurd (omega arith)
 ended-refused (b ∷ bs) [] k l h = absurd (omega arith)

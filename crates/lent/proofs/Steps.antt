@@ -1,4 +1,4 @@
--- What is read of a caller's numbers, and what an evaluation, a placing and a job write. Assumes nothing.
+-- What is read of a caller's numbers, and what an evaluation, a pair and a job write. Assumes nothing.
 use mathlib.Core.Path.{_≡_, refl, ap, _∙_}
 use mathlib.Core.Bool.{Bool, _&&_}
 use mathlib.Core.List.{List, [], _∷_}
@@ -12,12 +12,10 @@ use Rattle.surface.specs.declared.Evaluation.{Evaluation}
 use Rattle.surface.specs.declared.Evaluation.the-variants as Evaluation
 use Rattle.inversion.specs.declared.Hint.the-variants.{Nothing, At}
 use Rattle.chart.specs.declared.Period.the-variants.{Free, Every}
-use Rattle.chart.specs.declared.Placing.{Placing}
-use Rattle.chart.specs.declared.Placing.the-variants.{Pair, Refusal}
-use Rattle.chart.specs.Chart.{numberOf, leftOf}
-use Rattle.row.specs.RowLaws.{takenOf}
 use Rattle.digits.specs.Text.{Put, written}
-use Rattle.lent.specs.Lent.{Evaluates, Places, Prints, hintOf, periodOf, numbersOf, jetInto, pairInto, leftInto, placingInto, printoutInto}
+use Rattle.lent.specs.declared.answers.Answer.{Answer}
+use Rattle.lent.specs.declared.answers.Answer.the-variants.{Pair, Refusal}
+use Rattle.lent.specs.Lent.{Evaluates, Places, Prints, hintOf, periodOf, numbersOf, jetInto, answerInto, printoutInto}
 
 -- ---- what is read
 
@@ -89,19 +87,16 @@ jet-found (a ∷ (b ∷ (c ∷ (d ∷ (e ∷ (f ∷ (g ∷ (i ∷ (k ∷ xs)))))
 
 -- ---- a pair for units of a budget
 
-pub within : {p q : Placing} {b : ℕ} → p ≡ q → takenOf p ≤ b → takenOf q ≤ b
-within e h = omega (arith, ap takenOf e, h)
-
 abbrev leaves : ℕ → List ℕ → List Float → Places
 leaves number budget pair = record { number = number; budget = budget; pair = pair }
 
-pub laid-refusal : (bs : List ℕ) (xs : List Float) {p : Placing} {n t : ℕ} → 1 ≤ length bs → p ≡ Refusal n t → leaves n (set bs 0 (getD bs 0 0 - t)) xs ≡ placingInto p bs xs
-unfolding placingInto numberOf leftInto leftOf pairInto
+pub laid-refusal : (bs : List ℕ) (xs : List Float) {p : Answer} {n t : ℕ} → 1 ≤ length bs → p ≡ Refusal n t → leaves n (set bs 0 (getD bs 0 0 - t)) xs ≡ answerInto p bs xs
+unfolding answerInto
 laid-refusal [] xs l h = absurd (omega arith)
 laid-refusal (b ∷ bs) xs l h = rw h refl
 
-pub laid-pair : (bs : List ℕ) (xs : List Float) {p : Placing} {u v : Float} {t : ℕ} → 1 ≤ length bs → 2 ≤ length xs → p ≡ Pair u v t → leaves 0 (set bs 0 (getD bs 0 0 - t)) (set (set xs 0 u) 1 v) ≡ placingInto p bs xs
-unfolding placingInto numberOf leftInto leftOf pairInto
+pub laid-pair : (bs : List ℕ) (xs : List Float) {p : Answer} {u v : Float} {t : ℕ} → 1 ≤ length bs → 2 ≤ length xs → p ≡ Pair u v t → leaves 0 (set bs 0 (getD bs 0 0 - t)) (set (set xs 0 u) 1 v) ≡ answerInto p bs xs
+unfolding answerInto
 laid-pair [] xs l k h = absurd (omega arith)
 laid-pair (b ∷ bs) [] l k h = absurd (omega arith)
 laid-pair (b ∷ bs) (x ∷ []) l k h = absurd (omega arith)

@@ -1,5 +1,5 @@
 -- How a caller's numbers are read, whether they fit, and how an answer is laid out in what the caller lends. Definitions only.
-use Prim.Native.Nat.{ℕ, _+_}
+use Prim.Native.Nat.{ℕ, _+_, _-_}
 use mathlib.Core.Bool.{Bool, _&&_, _||_}
 use mathlib.Core.List.{List, [], _∷_, _++_}
 use lib.Dec.{leb, eqb}
@@ -12,14 +12,18 @@ use Rattle.inversion.specs.declared.Hint.{Hint}
 use Rattle.inversion.specs.declared.Hint.the-variants.{Nothing, At}
 use Rattle.chart.specs.declared.Period.{Period}
 use Rattle.chart.specs.declared.Period.the-variants.{Free, Every}
+use Rattle.chart.specs.declared.Terms.{Terms}
 use Rattle.chart.specs.declared.Placing.{Placing}
-use Rattle.chart.specs.declared.Placing.the-variants.{Pair, Refusal}
-use Rattle.chart.specs.Chart.{numberOf, leftOf}
+use Rattle.chart.specs.declared.Placing.the-variants as Placing
+use Rattle.inverter.specs.declared.Components.{Components}
+use Rattle.inverter.specs.declared.Components.the-variants as Components
 use Rattle.edges.specs.declared.Edge.{Edge}
 use Rattle.edges.specs.declared.Edge.the-variants.{Open, Collapsed}
 use Rattle.edges.specs.declared.Edges.{Edges}
 use Rattle.edges.specs.declared.Edges.the-variants as Edges
 use Rattle.job.specs.Printout.{mostPrinted}
+use Rattle.lent.specs.declared.answers.Answer.{Answer}
+use Rattle.lent.specs.declared.answers.Answer.the-variants.{Pair, Refusal}
 
 -- ---- what is read
 
@@ -35,6 +39,9 @@ unfoldable pub periodOf : List Float → Period
 periodOf [] = Free
 periodOf (p ∷ []) = Every p
 periodOf (p ∷ (x ∷ xs)) = Free
+
+unfoldable pub termsOf : List Float → Float → List Float → List Float → Terms
+termsOf hint tolerance pu pv = record { hint = hintOf hint; tolerance = tolerance; u = periodOf pu; v = periodOf pv }
 
 -- ---- what fits: flags, and the counts of what is lent
 
@@ -85,7 +92,7 @@ pub record Evaluates : Type 0 where
 
 -- the point, the derivative along u and that along v
 abbrev pub numbersOf : Jet → List Float
-numbersOf j = j .x ∷ (j .y ∷ (j .z ∷ (j .ux ∷ (j .uy ∷ (j .uz ∷ (j .vx ∷ (j .vy ∷ (j .vz ∷ []))))))))
+numbersOf j = j .point .x ∷ (j .point .y ∷ (j .point .z ∷ (j .u .x ∷ (j .u .y ∷ (j .u .z ∷ (j .v .x ∷ (j .v .y ∷ (j .v .z ∷ []))))))))
 
 -- then all later numbers as they were
 unfoldable pub jetInto : Evaluation → List Float → Evaluates
@@ -100,23 +107,27 @@ pub record Places : Type 0 where
   pub budget : List ℕ
   pub pair : List Float
 
--- the pair, then all later numbers as they were
-unfoldable pub pairInto : Placing → List Float → List Float
-pairInto (Pair u v taken) pair = u ∷ (v ∷ drop 2 pair)
-pairInto (Refusal number taken) pair = pair
+unfoldable pub answerOfPlacing : Placing → Answer
+answerOfPlacing (Placing.Pair e taken) = Pair (e .u) (e .v) taken
+answerOfPlacing (Placing.Refusal number taken) = Refusal number taken
 
--- the budget left, then all later numbers as they were
-unfoldable pub leftInto : Placing → List ℕ → List ℕ
-leftInto p budget = leftOf (getD budget 0 0) p ∷ drop 1 budget
+-- components are answered for one unit
+unfoldable pub answerOfComponents : Components → Answer
+answerOfComponents (Components.Along a b) = Pair a b 1
+answerOfComponents (Components.Refusal number taken) = Refusal number taken
 
-unfoldable pub placingInto : Placing → List ℕ → List Float → Places
-placingInto p budget pair = record { number = numberOf p; budget = leftInto p budget; pair = pairInto p pair }
-
--- ---- a row
+abbrev pub takenOf : Answer → ℕ
+takenOf (Pair a b taken) = taken
+takenOf (Refusal number taken) = taken
 
 -- the first of the lent numbers, then all later ones as they were
 abbrev pub firstOf : ℕ → List ℕ → List ℕ
 firstOf n ns = n ∷ drop 1 ns
+
+-- the budget left, and the pair, then all later numbers as they were
+unfoldable pub answerInto : Answer → List ℕ → List Float → Places
+answerInto (Pair a b taken) budget pair = record { number = 0; budget = firstOf (getD budget 0 0 - taken) budget; pair = a ∷ (b ∷ drop 2 pair) }
+answerInto (Refusal number taken) budget pair = record { number = number; budget = firstOf (getD budget 0 0 - taken) budget; pair = pair }
 
 -- ---- the edges
 

@@ -1,12 +1,18 @@
 // An answer, written to what the caller lent.
 use chart::Placing;
 use digits::put;
+use inverter::Components;
 use surface::Evaluation;
 ghost use mathlib.Core.Path.{_≡_};
 ghost use Prim.Native.Nat.{_≤_};
 ghost use lib.ListN.{length, getD};
-ghost use Rattle.lent.specs.Lent.{jetInto, placingInto, printoutInto};
-ghost use Rattle.row.specs.RowLaws.{takenOf};
+ghost use Rattle.lent.specs.Lent.{jetInto, answerOfPlacing, answerOfComponents, takenOf, answerInto, printoutInto};
+
+// Two numbers and the units taken; or the number of a refusal and the units taken.
+pub enum Answer {
+    Pair(f64, f64, u64),
+    Refusal(u64, u64),
+}
 
 pub fn lay_jet(found: Evaluation, jet: &mut [f64]) -> u64
     requires { ⌜ 9 ≤ length (now jet) ⌝ }
@@ -15,33 +21,53 @@ pub fn lay_jet(found: Evaluation, jet: &mut [f64]) -> u64
     match found {
         Evaluation::Refusal(n) => n,
         Evaluation::Found(j) => {
-            jet[0] = j.x;
-            jet[1] = j.y;
-            jet[2] = j.z;
-            jet[3] = j.ux;
-            jet[4] = j.uy;
-            jet[5] = j.uz;
-            jet[6] = j.vx;
-            jet[7] = j.vy;
-            jet[8] = j.vz;
+            jet[0] = j.point.x;
+            jet[1] = j.point.y;
+            jet[2] = j.point.z;
+            jet[3] = j.u.x;
+            jet[4] = j.u.y;
+            jet[5] = j.u.z;
+            jet[6] = j.v.x;
+            jet[7] = j.v.y;
+            jet[8] = j.v.z;
             0
         }
     }
 }
 
-// The units taken are in the budget.
-pub fn lay_placing(placing: Placing, budget: &mut [u64], pair: &mut [f64]) -> u64
-    requires { ⌜ (1 ≤ length (now budget)) × (2 ≤ length (now pair)) × (takenOf placing ≤ getD (now budget) 0 0) ⌝ }
-    ensures { λ r. ⌜ record { number = r; budget = now (budget .exit); pair = now (pair .exit) } ≡ placingInto placing (now (budget .entry)) (now (pair .entry)) ⌝ }
+// The distance is not laid out.
+pub fn answer_of_placing(placing: Placing) -> Answer
+    ensures { λ r. ⌜ r ≡ answerOfPlacing placing ⌝ }
 {
     match placing {
-        Placing::Pair(u, v, taken) => {
+        Placing::Pair(end, taken) => Answer::Pair(end.u, end.v, taken),
+        Placing::Refusal(number, taken) => Answer::Refusal(number, taken),
+    }
+}
+
+// Components are answered for one unit.
+pub fn answer_of_components(components: Components) -> Answer
+    ensures { λ r. ⌜ r ≡ answerOfComponents components ⌝ }
+{
+    match components {
+        Components::Along(a, b) => Answer::Pair(a, b, 1),
+        Components::Refusal(number, taken) => Answer::Refusal(number, taken),
+    }
+}
+
+// The units taken are in the budget.
+pub fn lay_answer(answer: Answer, budget: &mut [u64], pair: &mut [f64]) -> u64
+    requires { ⌜ (1 ≤ length (now budget)) × (2 ≤ length (now pair)) × (takenOf answer ≤ getD (now budget) 0 0) ⌝ }
+    ensures { λ r. ⌜ record { number = r; budget = now (budget .exit); pair = now (pair .exit) } ≡ answerInto answer (now (budget .entry)) (now (pair .entry)) ⌝ }
+{
+    match answer {
+        Answer::Pair(a, b, taken) => {
             budget[0] = budget[0] - taken;
-            pair[0] = u;
-            pair[1] = v;
+            pair[0] = a;
+            pair[1] = b;
             0
         }
-        Placing::Refusal(number, taken) => {
+        Answer::Refusal(number, taken) => {
             budget[0] = budget[0] - taken;
             number
         }

@@ -1,11 +1,12 @@
 // A caller's numbers, and whether they fit: flags, and the counts of what is lent.
 use chart::Period;
+use chart::Terms;
 use inversion::Hint;
 use job::MOST_PRINTED;
 ghost use mathlib.Core.Path.{_≡_};
-ghost use Rattle.lent.specs.Lent.{hintOf, periodOf, soundFlags, soundOptions, roomy, roomyRow, roomyEdges, fitsJet, fitsInversion, fitsRow, fitsDerivative, fitsEdges, fitsJob};
+ghost use Rattle.lent.specs.Lent.{hintOf, periodOf, termsOf, soundFlags, soundOptions, roomy, roomyRow, roomyEdges, fitsJet, fitsInversion, fitsRow, fitsDerivative, fitsEdges, fitsJob};
 
-pub fn hint_of(hint: &[f64]) -> Hint
+fn hint_of(hint: &[f64]) -> Hint
     ensures { λ r. ⌜ r ≡ hintOf (now (hint .entry)) ⌝ }
 {
     if hint.len() != 2 {
@@ -14,13 +15,24 @@ pub fn hint_of(hint: &[f64]) -> Hint
     Hint::At(hint[0], hint[1])
 }
 
-pub fn period_of(period: &[f64]) -> Period
+fn period_of(period: &[f64]) -> Period
     ensures { λ r. ⌜ r ≡ periodOf (now (period .entry)) ⌝ }
 {
     if period.len() != 1 {
         return Period::Free;
     }
     Period::Every(period[0])
+}
+
+pub fn terms_of(hint: &[f64], tolerance: f64, pu: &[f64], pv: &[f64]) -> Terms
+    ensures { λ r. ⌜ r ≡ termsOf (now (hint .entry)) tolerance (now (pu .entry)) (now (pv .entry)) ⌝ }
+{
+    Terms {
+        hint: hint_of(hint),
+        tolerance,
+        u: period_of(pu),
+        v: period_of(pv),
+    }
 }
 
 fn sound_flags(flags: u64) -> bool

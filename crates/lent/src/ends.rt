@@ -1,7 +1,7 @@
 // How a row ended, and the edges that collapse, written to what the caller lent.
 use edges::Edge;
 use edges::Edges;
-use row::Ended;
+use row::RowEnd;
 ghost use mathlib.Core.Path.{_≡_};
 ghost use mathlib.Core.List.{_∷_};
 ghost use Prim.Native.Nat.{_+_, _≤_};
@@ -9,19 +9,19 @@ ghost use lib.ListN.{length, drop};
 ghost use Rattle.row.specs.Row.{numberOf, indexOf, leftOf};
 ghost use Rattle.lent.specs.Lent.{firstOf, flagOf, edgeAt, edgesInto};
 
-pub fn lay_ended(ended: Ended, budget: &mut [u64], index: &mut [u64]) -> u64
+pub fn lay_ended(ended: RowEnd, budget: &mut [u64], index: &mut [u64]) -> u64
     requires { ⌜ (1 ≤ length (now budget)) × (1 ≤ length (now index)) ⌝ }
     ensures { λ r. ⌜ r ≡ numberOf ended ⌝ }
     ensures { λ _. ⌜ now (budget .exit) ≡ firstOf (leftOf ended) (now (budget .entry)) ⌝ }
     ensures { λ _. ⌜ now (index .exit) ≡ firstOf (indexOf ended) (now (index .entry)) ⌝ }
 {
     match ended {
-        Ended::Placed(left) => {
+        RowEnd::Placed(left) => {
             budget[0] = left;
             index[0] = 0;
             0
         }
-        Ended::Refusal(number, i, left) => {
+        RowEnd::Refusal(number, i, left) => {
             budget[0] = left;
             index[0] = i as u64;
             number

@@ -7,18 +7,22 @@ use Rattle.float64.specs.Operators.{_⊕_, _⊗_, 0·, ½·, 1·, 1e-6}
 use Rattle.vector3.specs.declared.Vector3.{Vector3}
 use Rattle.patch.specs.declared.Evaluated.{Evaluated}
 use Rattle.patch.specs.declared.Evaluated.the-variants.{Found}
-use Rattle.newton.specs.declared.Domain.{Domain}
-use Rattle.newton.specs.Run.{ends, run, nudges}
+use Rattle.price.specs.Price.{answered}
+use Rattle.surface.specs.declared.Domain.{Domain}
+use Rattle.newton.specs.Run.{run, nudges}
 use Rattle.newton.specs.Compute.{compute}
 
 unit : Domain
 unit = record { u = record { low = 0·; high = 1·; periodic = false }; v = record { low = 0·; high = 1·; periodic = false } }
 
+at : Float → Float → Vector3
+at x y = record { x = x; y = y; z = 0· }
+
 square : Float → Float → Evaluated
-square x y = Found (record { x = x; y = y; z = 0·; ux = 1·; uy = 0·; uz = 0·; vx = 0·; vy = 1·; vz = 0· })
+square u v = Found (record { point = at u v; u = at 1· 0·; v = at 0· 1· })
 
 dot : Float → Float → Evaluated
-dot x y = Found (record { x = 0·; y = 0·; z = 0·; ux = 0·; uy = 0·; uz = 0·; vx = 0·; vy = 0·; vz = 0· })
+dot u v = Found (record { point = at 0· 0·; u = at 0· 0·; v = at 0· 0· })
 
 ¼· : Float
 ¼· = ½· ⊗ ½·
@@ -27,8 +31,8 @@ dot x y = Found (record { x = 0·; y = 0·; z = 0·; ux = 0·; uy = 0·; uz = 0�
 ¾· = ½· ⊕ ¼·
 
 -- one step, and then the pair does not change
-steps : run unit (record { x = ¼·; y = ½·; z = ¾· }) square ½· ½· ≡ ends ¼· ½· ¾· 2
-unfolding compute unit square ¼· ¾·
+steps : run unit (record { x = ¼·; y = ½·; z = ¾· }) square ½· ½· ≡ answered (record { u = ¼·; v = ½·; distance = ¾· }) 2
+unfolding compute unit at square ¼· ¾·
 steps = refl
 
 -- (3, 4, 0), 5 from the origin
@@ -36,10 +40,10 @@ mark : Vector3
 mark = record { x = fin false 3 (pos 0); y = fin false 1 (pos 2); z = 0· }
 
 -- nudged, and over where it is singular again
-stops : run unit mark dot 0· 0· ≡ ends (1e-6 ⊗ ½·) (1e-6 ⊗ ½·) (fin false 5 (pos 0)) 2
-unfolding compute unit dot mark
+stops : run unit mark dot 0· 0· ≡ answered (record { u = 1e-6 ⊗ ½·; v = 1e-6 ⊗ ½·; distance = fin false 5 (pos 0) }) 2
+unfolding compute unit at dot mark
 stops = refl
 
 nudged : nudges unit mark dot 0· 0· ≡ true
-unfolding compute unit dot mark
+unfolding compute unit at dot mark
 nudged = refl

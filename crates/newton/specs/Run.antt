@@ -6,12 +6,16 @@ use lib.Ieee.{Float, lt, le, eq, neg}
 use Rattle.float64.specs.Operators.{_⊕_, _⊖_, _⊗_, _⊘_, ½·, 1e-6, 1e-15, 1e-24}
 use Rattle.float64.specs.Functions.{isFinite, abs, max, clamp}
 use Rattle.vector3.specs.declared.Vector3.{Vector3}
-use Rattle.vector3.specs.Vector3.{sub, dot, distance}
+use Rattle.vector3.specs.Vector3.{sub, dot}
+use Rattle.price.specs.Price.{Priced, refused, answered, Paid, spent, paid, spend}
 use Rattle.patch.specs.declared.Jet.{Jet}
 use Rattle.patch.specs.declared.Evaluated.{Evaluated}
 use Rattle.patch.specs.declared.Evaluated.the-variants as Eval
-use Rattle.newton.specs.declared.Interval.{Interval}
-use Rattle.newton.specs.declared.Domain.{Domain}
+use Rattle.patch.specs.Patch.{fromMark}
+use Rattle.surface.specs.declared.Interval.{Interval}
+use Rattle.surface.specs.declared.Domain.{Domain}
+use Rattle.newton.specs.declared.End.{End}
+use Rattle.newton.specs.declared.Held.{Held}
 use Rattle.newton.specs.declared.Step.{Step}
 use Rattle.newton.specs.declared.Step.the-variants.{Singular, By}
 use Rattle.newton.specs.declared.Plan.{Plan}
@@ -20,23 +24,10 @@ use Rattle.newton.specs.declared.Verdict.{Verdict}
 use Rattle.newton.specs.declared.Verdict.the-variants.{Further, Last, Onward}
 use Rattle.newton.specs.declared.Outcome.{Outcome}
 use Rattle.newton.specs.declared.Outcome.the-variants.{Ended, Refused, Spent}
-use Rattle.newton.specs.declared.Held.{Held}
 use Rattle.newton.specs.declared.Turn.{Turn}
 use Rattle.newton.specs.declared.Turn.the-variants.{Over, Onto}
 
 -- ---- a jet against the mark
-
-abbrev pub pointOf : Jet → Vector3
-pointOf j = record { x = j .x; y = j .y; z = j .z }
-
-abbrev pub alongU : Jet → Vector3
-alongU j = record { x = j .ux; y = j .uy; z = j .uz }
-
-abbrev pub alongV : Jet → Vector3
-alongV j = record { x = j .vx; y = j .vy; z = j .vz }
-
-unfoldable pub fromMark : Vector3 → Jet → Float
-fromMark mark j = distance (pointOf j) mark
 
 -- the step by Cramer's rule; singular where the determinant is not finite or at most 1e-24 of the squared larger of a and c
 unfoldable pub solve : Float → Float → Float → Float → Float → Step
@@ -47,140 +38,129 @@ solve a b c g0 g1 =
 
 unfoldable pub stepOf : Vector3 → Jet → Step
 stepOf mark j =
-    let du = alongU j in
-    let dv = alongV j in
-    let r = sub (pointOf j) mark in
+    let du = j .u in
+    let dv = j .v in
+    let r = sub (j .point) mark in
     solve (dot du du) (dot du dv) (dot dv dv) (dot du r) (dot dv r)
 
 -- ---- a pair against the domain
 
 -- clamped, unless the axis is periodic
-unfoldable pub into : Interval → Float → Float
-into i x = cond (i .periodic) x (clamp x (i .low) (i .high))
+unfoldable pub clampInto : Interval → Float → Float
+clampInto i t = cond (i .periodic) t (clamp t (i .low) (i .high))
 
 -- 1e-6 of the way to the domain's centre
 unfoldable pub inward : Interval → Float → Float
-inward i x = x ⊕ 1e-6 ⊗ (½· ⊗ (i .low ⊕ i .high) ⊖ x)
+inward i t = t ⊕ 1e-6 ⊗ (½· ⊗ (i .low ⊕ i .high) ⊖ t)
 
 abbrev pub width : Interval → Float
 width i = i .high ⊖ i .low
 
 -- whether a move is at most 1e-15 of the wider domain
-unfoldable pub still : Domain → Float → Float → Float → Float → Bool
-still d x y x' y' = le (max (abs (x' ⊖ x)) (abs (y' ⊖ y))) (max (width (d .u)) (width (d .v)) ⊗ 1e-15)
+unfoldable pub isSmallStep : Domain → End → End → Bool
+isSmallStep d from to = le (max (abs (to .u ⊖ from .u)) (abs (to .v ⊖ from .v))) (max (width (d .u)) (width (d .v)) ⊗ 1e-15)
 
 -- ---- a round, of a run that was nudged before or not
 
 -- singular: nudged the first time, over the second
-unfoldable pub nudged : Domain → Bool → Float → Float → Plan
-nudged d true x y = Halt
-nudged d false x y = Probe true (into (d .u) (inward (d .u) x)) (into (d .v) (inward (d .v) y))
+unfoldable pub nudged : Domain → Bool → End → Plan
+nudged d true from = Halt
+nudged d false from = Probe true (clampInto (d .u) (inward (d .u) (from .u))) (clampInto (d .v) (inward (d .v) (from .v)))
 
 -- over where the pair does not change
-unfoldable pub moved : Float → Float → Float → Float → Plan
-moved x y x' y' = cond (eq x' x && eq y' y) Halt (Probe false x' y')
+unfoldable pub moved : End → Float → Float → Plan
+moved from u v = cond (eq u (from .u) && eq v (from .v)) Halt (Probe false u v)
 
-unfoldable pub planBy : Domain → Bool → Float → Float → Step → Plan
-planBy d b x y Singular = nudged d b x y
-planBy d b x y (By s t) = moved x y (into (d .u) (x ⊕ s)) (into (d .v) (y ⊕ t))
+unfoldable pub planBy : Domain → Held → Step → Plan
+planBy d h Singular = nudged d (h .nudged) (h .end)
+planBy d h (By s t) = moved (h .end) (clampInto (d .u) (h .end .u ⊕ s)) (clampInto (d .v) (h .end .v ⊕ t))
 
-unfoldable pub plan : Domain → Vector3 → Bool → Float → Float → Jet → Plan
-plan d mark b x y j = planBy d b x y (stepOf mark j)
+unfoldable pub plan : Domain → Vector3 → Held → Plan
+plan d mark h = planBy d h (stepOf mark (h .jet))
 
--- a nudge is taken with no test of distance; any other point must not be further, e' at most e, and a small step is the last
-unfoldable pub judge : Domain → Float → Float → Float → Bool → Float → Float → Float → Verdict
-judge d x y e true x' y' e' = Onward
-judge d x y e false x' y' e' = cond (lt e e') Further (cond (still d x y x' y') Last Onward)
+-- a nudge is taken with no test of distance; any other point must not be further, and a small step is the last
+unfoldable pub judge : Domain → End → Bool → End → Verdict
+judge d from true to = Onward
+judge d from false to = cond (lt (from .distance) (to .distance)) Further (cond (isSmallStep d from to) Last Onward)
 
--- ---- a run: its end with that pair's distance, or refused; and how many evaluations it made
+-- ---- a run: its end, with that pair's distance, or refused; and how many evaluations it made
 
-pub data Run : Type 0 where
-  fails : ℕ → Run
-  ends : Float → Float → Float → ℕ → Run
-
-abbrev pub count : Run → ℕ
-count (fails n) = n
-count (ends x y e n) = n
-
--- what a round comes to: the run is over, or it goes on from a pair with its jet, to which it was nudged or not
+-- what a round comes to: the run is over, or it goes on
 pub data Round : Type 0 where
-  over : Run → Round
-  onto : Bool → Float → Float → Jet → Round
+  over : Priced End → Round
+  onto : Held → Round
 
-unfoldable pub follow : (Bool → Float → Float → Jet → Run) → Bool → Round → Run
-follow rest b (over r) = r
-follow rest b (onto c x y j) = rest (b || c) x y j
+unfoldable pub follow : (Held → Priced End) → Round → Priced End
+follow rest (over r) = r
+follow rest (onto h) = rest h
+
+-- what a run holds at an evaluated pair
+abbrev pub held : Vector3 → Bool → Float → Float → Jet → Held
+held mark b u v j = record { end = record { u = u; v = v; distance = fromMark mark j }; jet = j; nudged = b }
 
 module _ (d : Domain) (mark : Vector3) where
-  -- after n evaluations, the last of them at (x', y')
-  unfoldable pub settle : Float → Float → Jet → ℕ → Bool → Float → Float → Jet → Verdict → Round
-  settle x y j n c x' y' k Further = over (ends x y (fromMark mark j) n)
-  settle x y j n c x' y' k Last = over (ends x' y' (fromMark mark k) n)
-  settle x y j n c x' y' k Onward = onto c x' y' k
+  -- after n evaluations, the last of them at the next pair
+  unfoldable pub settle : Held → ℕ → Held → Verdict → Round
+  settle h n next Further = over (answered (h .end) n)
+  settle h n next Last = over (answered (next .end) n)
+  settle h n next Onward = onto next
 
-  unfoldable pub weigh : Float → Float → Jet → ℕ → Bool → Float → Float → Evaluated → Round
-  weigh x y j n c x' y' Eval.Refused = over (fails n)
-  weigh x y j n c x' y' (Eval.Found k) = settle x y j n c x' y' k (judge d x y (fromMark mark j) c x' y' (fromMark mark k))
+  unfoldable pub weigh : Held → ℕ → Bool → Float → Float → Evaluated → Round
+  weigh h n c u v Eval.Refused = over (refused n)
+  weigh h n c u v (Eval.Found j) = let next = held mark (h .nudged || c) u v j in settle h n next (judge d (h .end) c (next .end))
 
   module _ (eval : Float → Float → Evaluated) where
-    unfoldable pub pursue : Float → Float → Jet → ℕ → Plan → Round
-    pursue x y j n Halt = over (ends x y (fromMark mark j) n)
-    pursue x y j n (Probe c x' y') = weigh x y j (suc n) c x' y' (eval x' y')
+    unfoldable pub pursue : Held → ℕ → Plan → Round
+    pursue h n Halt = over (answered (h .end) n)
+    pursue h n (Probe c u v) = weigh h (suc n) c u v (eval u v)
 
-    -- a round after n evaluations, at a pair with its jet
-    unfoldable pub round : ℕ → Bool → Float → Float → Jet → Round
-    round n b x y j = pursue x y j n (plan d mark b x y j)
+    -- a round after n evaluations
+    unfoldable pub round : ℕ → Held → Round
+    round n h = pursue h n (plan d mark h)
 
     -- k rounds more
-    unfoldable pub rounds : ℕ → ℕ → Bool → Float → Float → Jet → Run
-    rounds zero n b x y j = ends x y (fromMark mark j) n
-    rounds (suc k) n b x y j = follow (rounds k (suc n)) b (round n b x y j)
+    unfoldable pub rounds : ℕ → ℕ → Held → Priced End
+    rounds zero n h = answered (h .end) n
+    rounds (suc k) n h = follow (rounds k (suc n)) (round n h)
 
-    unfoldable pub started : Float → Float → Evaluated → Run
-    started x y Eval.Refused = fails 1
-    started x y (Eval.Found j) = rounds 32 1 false x y j
+    unfoldable pub started : Float → Float → Evaluated → Priced End
+    started u v Eval.Refused = refused 1
+    started u v (Eval.Found j) = rounds 32 1 (held mark false u v j)
 
-    unfoldable pub run : Float → Float → Run
-    run x y =
-        let a = into (d .u) x in
-        let b = into (d .v) y in
+    unfoldable pub run : Float → Float → Priced End
+    run u v =
+        let a = clampInto (d .u) u in
+        let b = clampInto (d .v) v in
         started a b (eval a b)
 
--- ---- whether a run moves to a pair to which it is nudged
+    -- ---- whether a run moves to a pair to which it is nudged
 
-unfoldable pub nudgesOn : (Float → Float → Jet → Bool) → Round → Bool
-nudgesOn rest (over r) = false
-nudgesOn rest (onto true x y j) = true
-nudgesOn rest (onto false x y j) = rest x y j
+    unfoldable pub nudgesOn : (Held → Bool) → Round → Bool
+    nudgesOn rest (over r) = false
+    nudgesOn rest (onto h) = cond (h .nudged) true (rest h)
 
-module _ (d : Domain) (mark : Vector3) (eval : Float → Float → Evaluated) where
-  unfoldable pub nudgesIn : ℕ → ℕ → Bool → Float → Float → Jet → Bool
-  nudgesIn zero n b x y j = false
-  nudgesIn (suc k) n b x y j = nudgesOn (nudgesIn k (suc n) b) (round d mark eval n b x y j)
+    unfoldable pub nudgesIn : ℕ → ℕ → Held → Bool
+    nudgesIn zero n h = false
+    nudgesIn (suc k) n h = nudgesOn (nudgesIn k (suc n)) (round n h)
 
-  unfoldable pub nudgesFrom : Float → Float → Evaluated → Bool
-  nudgesFrom x y Eval.Refused = false
-  nudgesFrom x y (Eval.Found j) = nudgesIn 32 1 false x y j
+    unfoldable pub nudgesFrom : Float → Float → Evaluated → Bool
+    nudgesFrom u v Eval.Refused = false
+    nudgesFrom u v (Eval.Found j) = nudgesIn 32 1 (held mark false u v j)
 
-  unfoldable pub nudges : Float → Float → Bool
-  nudges x y =
-      let a = into (d .u) x in
-      let b = into (d .v) y in
-      nudgesFrom a b (eval a b)
+    unfoldable pub nudges : Float → Float → Bool
+    nudges u v =
+        let a = clampInto (d .u) u in
+        let b = clampInto (d .v) v in
+        nudgesFrom a b (eval a b)
 
--- ---- what a budget makes of it: with the price or more the run, with less nothing
+-- ---- what a budget makes of it, as it is answered
 
-unfoldable pub told : Run → Outcome
-told (fails n) = Refused n
-told (ends x y e n) = Ended x y e n
-
-unfoldable pub spend : ℕ → Run → Outcome
-spend budget r = cond (leb (count r) budget) (told r) Spent
-
-abbrev pub held : Vector3 → Bool → Float → Float → Jet → Held
-held mark b x y j = record { x = x; y = y; distance = fromMark mark j; jet = j; nudged = b }
+unfoldable pub outcomeOf : Paid End → Outcome
+outcomeOf spent = Spent
+outcomeOf (paid (refused n)) = Refused n
+outcomeOf (paid (answered e n)) = Ended e n
 
 -- a round after n evaluations: one that goes on takes a unit
-unfoldable pub paid : ℕ → Vector3 → Bool → ℕ → Round → Turn
-paid budget mark b n (over r) = Over (spend budget r)
-paid budget mark b n (onto c x y j) = cond (leb (suc n) budget) (Onto (held mark (b || c) x y j)) (Over Spent)
+unfoldable pub turnOf : ℕ → ℕ → Round → Turn
+turnOf budget n (over r) = Over (outcomeOf (spend budget r))
+turnOf budget n (onto h) = cond (leb (suc n) budget) (Onto h) (Over Spent)

@@ -1,7 +1,6 @@
 // One round: where to evaluate next, and what came of it.
-use crate::Domain;
+use crate::End;
 use crate::Held;
-use crate::Interval;
 use crate::Outcome;
 use crate::Plan;
 use crate::Step;
@@ -13,65 +12,30 @@ use float64::is_finite;
 use float64::max;
 use patch::Evaluated;
 use patch::Jet;
-use scaled::Scaling;
+use scaled::Accepted;
 use scaled::scaled_jet;
-use surface::Shape;
+use surface::Domain;
+use surface::Interval;
 use vector3::Vector3;
 use vector3::distance;
 use vector3::dot;
 use vector3::sub;
 ghost use mathlib.Core.Path.{_≡_};
 ghost use Prim.Native.Nat.{_≤_};
-ghost use Rattle.surface.specs.Surface.{surface, evaluateBy};
-ghost use Rattle.scaled.specs.Scaled.{Scaled};
+ghost use Rattle.surface.specs.Surface.{evaluateBy};
+ghost use Rattle.surface.specs.Lent.{surfaceOf, atEntry};
+ghost use Rattle.scaled.specs.Accepted.{Accepts};
 ghost use Rattle.newton.specs.Run as Run;
 
-fn from_mark(mark: Vector3, j: Jet) -> f64
-    ensures { λ r. ⌜ r ≡ Run.fromMark mark j ⌝ }
+pub(crate) fn hold(mark: Vector3, nudged: bool, u: f64, v: f64, jet: Jet) -> Held
+    ensures { λ r. ⌜ r ≡ Run.held mark nudged u v jet ⌝ }
 {
-    distance(point_of(j), mark)
-}
-
-pub(crate) fn hold(mark: Vector3, nudged: bool, x: f64, y: f64, jet: Jet) -> Held
-    ensures { λ r. ⌜ r ≡ Run.held mark nudged x y jet ⌝ }
-{
-    Held {
-        x,
-        y,
-        distance: from_mark(mark, jet),
-        jet,
-        nudged,
-    }
-}
-
-pub fn point_of(j: Jet) -> Vector3
-    ensures { λ r. ⌜ r ≡ Run.pointOf j ⌝ }
-{
-    Vector3 {
-        x: j.x,
-        y: j.y,
-        z: j.z,
-    }
-}
-
-pub fn along_u(j: Jet) -> Vector3
-    ensures { λ r. ⌜ r ≡ Run.alongU j ⌝ }
-{
-    Vector3 {
-        x: j.ux,
-        y: j.uy,
-        z: j.uz,
-    }
-}
-
-pub fn along_v(j: Jet) -> Vector3
-    ensures { λ r. ⌜ r ≡ Run.alongV j ⌝ }
-{
-    Vector3 {
-        x: j.vx,
-        y: j.vy,
-        z: j.vz,
-    }
+    let end = End {
+        u,
+        v,
+        distance: distance(jet.point, mark),
+    };
+    Held { end, jet, nudged }
 }
 
 // The negation comes before the division.
@@ -89,9 +53,9 @@ fn solve(a: f64, b: f64, c: f64, g0: f64, g1: f64) -> Step
 fn step_of(mark: Vector3, j: Jet) -> Step
     ensures { λ r. ⌜ r ≡ Run.stepOf mark j ⌝ }
 {
-    let du = along_u(j);
-    let dv = along_v(j);
-    let r = sub(point_of(j), mark);
+    let du = j.u;
+    let dv = j.v;
+    let r = sub(j.point, mark);
     solve(
         dot(du, du),
         dot(du, dv),
@@ -101,68 +65,73 @@ fn step_of(mark: Vector3, j: Jet) -> Step
     )
 }
 
-pub(crate) fn into(i: Interval, x: f64) -> f64
-    ensures { λ r. ⌜ r ≡ Run.into i x ⌝ }
+pub(crate) fn clamp_into(i: Interval, t: f64) -> f64
+    ensures { λ r. ⌜ r ≡ Run.clampInto i t ⌝ }
 {
     if i.periodic {
-        return x;
+        return t;
     }
-    clamp(x, i.low, i.high)
+    clamp(t, i.low, i.high)
 }
 
-fn inward(i: Interval, x: f64) -> f64
-    ensures { λ r. ⌜ r ≡ Run.inward i x ⌝ }
+fn inward(i: Interval, t: f64) -> f64
+    ensures { λ r. ⌜ r ≡ Run.inward i t ⌝ }
 {
-    x + 1.0e-6 * (0.5 * (i.low + i.high) - x)
+    t + 1.0e-6 * (0.5 * (i.low + i.high) - t)
 }
 
-fn still(d: Domain, x: f64, y: f64, next_x: f64, next_y: f64) -> bool
-    ensures { λ r. ⌜ r ≡ Run.still d x y «next_x» «next_y» ⌝ }
+fn is_small_step(d: Domain, from: End, to: End) -> bool
+    ensures { λ r. ⌜ r ≡ Run.isSmallStep d from to ⌝ }
 {
     let span = max(d.u.high - d.u.low, d.v.high - d.v.low);
-    max(abs(next_x - x), abs(next_y - y)) <= span * 1.0e-15
+    max(abs(to.u - from.u), abs(to.v - from.v)) <= span * 1.0e-15
 }
 
-fn nudge(d: Domain, nudged: bool, x: f64, y: f64) -> Plan
-    ensures { λ r. ⌜ r ≡ Run.nudged d nudged x y ⌝ }
+fn nudge(d: Domain, nudged: bool, from: End) -> Plan
+    ensures { λ r. ⌜ r ≡ Run.nudged d nudged from ⌝ }
 {
     if nudged {
         return Plan::Halt;
     }
-    Plan::Probe(true, into(d.u, inward(d.u, x)), into(d.v, inward(d.v, y)))
+    let u = inward(d.u, from.u);
+    let v = inward(d.v, from.v);
+    Plan::Probe(true, clamp_into(d.u, u), clamp_into(d.v, v))
 }
 
-fn moved(x: f64, y: f64, next_x: f64, next_y: f64) -> Plan
-    ensures { λ r. ⌜ r ≡ Run.moved x y «next_x» «next_y» ⌝ }
+fn moved(from: End, u: f64, v: f64) -> Plan
+    ensures { λ r. ⌜ r ≡ Run.moved from u v ⌝ }
 {
-    if next_x == x && next_y == y {
+    if u == from.u && v == from.v {
         return Plan::Halt;
     }
-    Plan::Probe(false, next_x, next_y)
+    Plan::Probe(false, u, v)
 }
 
 fn plan_from(d: Domain, mark: Vector3, held: Held) -> Plan
-    ensures { λ r. ⌜ r ≡ Run.plan d mark (held .nudged) (held .x) (held .y) (held .jet) ⌝ }
+    ensures { λ r. ⌜ r ≡ Run.plan d mark held ⌝ }
 {
-    let x = held.x;
-    let y = held.y;
+    let from = held.end;
     let Step::By(s, t) = step_of(mark, held.jet) else {
-        return nudge(d, held.nudged, x, y);
+        return nudge(d, held.nudged, from);
     };
-    moved(x, y, into(d.u, x + s), into(d.v, y + t))
+    moved(
+        from,
+        clamp_into(d.u, from.u + s),
+        clamp_into(d.v, from.v + t),
+    )
 }
 
 // A nudge is taken with no test of distance. An equal distance is no further.
-fn judge(d: Domain, held: Held, nudge: bool, next: Held) -> Verdict
-    ensures { λ r. ⌜ r ≡ Run.judge d (held .x) (held .y) (held .distance) nudge (next .x) (next .y) (next .distance) ⌝ }
+fn judge(d: Domain, from: End, nudge: bool, to: End) -> Verdict
+    ensures { λ r. ⌜ r ≡ Run.judge d from nudge to ⌝ }
 {
     if nudge {
         return Verdict::Onward;
     }
-    if held.distance < next.distance {
+    if from.distance < to.distance {
         return Verdict::Further;
     }
-    if still(d, held.x, held.y, next.x, next.y) {
+    if is_small_step(d, from, to) {
         return Verdict::Last;
     }
     Verdict::Onward
@@ -170,35 +139,36 @@ fn judge(d: Domain, held: Held, nudge: bool, next: Held) -> Verdict
 
 // Takes a unit where it evaluates, before it does.
 pub(crate) fn round(
-    shape: Shape,
+    accepted: Accepted,
     ku: &[f64],
     kv: &[f64],
     controls: &[f64],
     weights: &[f64],
-    scale: Scaling,
-    domain: Domain,
     mark: Vector3,
     held: Held,
     taken: u64,
     budget: u64,
 ) -> Turn
-    requires { ⌜ Scaled (surface shape (now ku) (now kv) (now controls) (now weights)) scale × (held .distance ≡ Run.fromMark mark (held .jet)) × (taken ≤ budget) ⌝ }
-    ensures { λ r. ⌜ r ≡ Run.paid budget mark (held .nudged) taken (Run.round domain mark (evaluateBy (surface shape (now (ku .entry)) (now (kv .entry)) (now (controls .entry)) (now (weights .entry))) (scale .largest)) taken (held .nudged) (held .x) (held .y) (held .jet)) ⌝ }
+    requires { ⌜ Accepts (surfaceOf (accepted .shape) ku kv controls weights) accepted × (taken ≤ budget) ⌝ }
+    ensures { λ r. ⌜ r ≡ Run.turnOf budget taken (Run.round (accepted .domain) mark (evaluateBy (atEntry (accepted .shape) ku kv controls weights) (accepted .largest)) taken held) ⌝ }
 {
-    let Plan::Probe(nudge, x, y) = plan_from(domain, mark, held) else {
-        return Turn::Over(Outcome::Ended(held.x, held.y, held.distance, taken));
+    let domain = accepted.domain;
+    let here = held.end;
+    let Plan::Probe(nudge, u, v) = plan_from(domain, mark, held) else {
+        return Turn::Over(Outcome::Ended(here, taken));
     };
     if taken == budget {
         return Turn::Over(Outcome::Spent);
     }
     let units = taken + 1;
-    let Evaluated::Found(jet) = scaled_jet(shape, ku, kv, controls, weights, scale, x, y) else {
+    let Evaluated::Found(jet) = scaled_jet(accepted, ku, kv, controls, weights, u, v) else {
         return Turn::Over(Outcome::Refused(units));
     };
-    let next = hold(mark, held.nudged | nudge, x, y, jet);
-    match judge(domain, held, nudge, next) {
-        Verdict::Further => Turn::Over(Outcome::Ended(held.x, held.y, held.distance, units)),
-        Verdict::Last => Turn::Over(Outcome::Ended(next.x, next.y, next.distance, units)),
+    let next = hold(mark, held.nudged | nudge, u, v, jet);
+    let there = next.end;
+    match judge(domain, here, nudge, there) {
+        Verdict::Further => Turn::Over(Outcome::Ended(here, units)),
+        Verdict::Last => Turn::Over(Outcome::Ended(there, units)),
         Verdict::Onward => Turn::Onto(next),
     }
 }

@@ -10,7 +10,7 @@ use Rattle.basis.specs.Basis.{three}
 use Rattle.patch.specs.declared.Sum.{Sum}
 use Rattle.patch.specs.declared.Evaluated.{Evaluated}
 use Rattle.patch.specs.declared.Evaluated.the-variants.{Found, Refused}
-use Rattle.patch.specs.Patch.{emptySum, emptySums, with, rational}
+use Rattle.patch.specs.Patch.{emptySum, emptySums, addControl, rational}
 use Rattle.patch.specs.Compute.{compute}
 
 at : Float → Float → Vector3
@@ -21,12 +21,12 @@ square : Float → Float → Float → Float → Float → Evaluated
 square w a0 a1 b0 b1 =
     let down = neg 1· in
     rational
-    (with (three a1 1· 0·) (three b1 1· 0·) 1· (at 1· 1·)
-    (with (three a1 1· 0·) (three b0 down 0·) 1· (at 1· 0·)
-    (with (three a0 down 0·) (three b1 1· 0·) 1· (at 0· 1·)
-    (with (three a0 down 0·) (three b0 down 0·) w (at 0· 0·) emptySums))))
+    (addControl (three a1 1· 0·) (three b1 1· 0·) 1· (at 1· 1·)
+    (addControl (three a1 1· 0·) (three b0 down 0·) 1· (at 1· 0·)
+    (addControl (three a0 down 0·) (three b1 1· 0·) 1· (at 0· 1·)
+    (addControl (three a0 down 0·) (three b0 down 0·) w (at 0· 0·) emptySums))))
 
-middle : square 1· ½· ½· ½· ½· ≡ Found (record { x = ½·; y = ½·; z = 0·; ux = 1·; uy = 0·; uz = 0·; vx = 0·; vy = 1·; vz = 0· })
+middle : square 1· ½· ½· ½· ½· ≡ Found (record { point = at ½· ½·; u = at 1· 0·; v = at 0· 1· })
 unfolding compute square at
 middle = refl
 
@@ -42,8 +42,8 @@ bent n =
     let turn : Sum = record { w = 0·; x = fin false 1 (pos n); y = 0·; z = 0· } in
     rational (record { value = rest; u = emptySum; v = emptySum; uu = emptySum; uv = emptySum; vv = turn })
 
-largest : bent 1022 ≡ Found (record { x = 0·; y = 0·; z = 0·; ux = 0·; uy = 0·; uz = 0·; vx = 0·; vy = 0·; vz = 0· })
-unfolding compute bent
+largest : bent 1022 ≡ Found (record { point = at 0· 0·; u = at 0· 0·; v = at 0· 0· })
+unfolding compute bent at
 largest = refl
 
 overflow : bent 1023 ≡ Refused

@@ -6,25 +6,19 @@ use native.Mathlib.Omega.{arith}
 use lib.Ieee.{le}
 use Rattle.float64.specs.Operators.{0·}
 use Rattle.vector3.specs.declared.Vector3.{Vector3}
-use Rattle.vector3.specs.Laws.{Finite}
+use Rattle.vector3.specs.Vector3.{finiteVector}
+use Rattle.vector3.specs.Laws.{Finite, vector-finite}
 use Rattle.patch.specs.declared.Sums.{Sums}
 use Rattle.patch.specs.declared.Jet.{Jet}
 use Rattle.patch.specs.declared.Evaluated.{Evaluated}
 use Rattle.patch.specs.declared.Evaluated.the-variants.{Found, Refused}
-use Rattle.patch.specs.Patch.{pointOf, firstOf, finiteVector, finiteSeconds, finiteSums, jetOf, quotients, rational}
+use Rattle.patch.specs.Patch.{pointOf, firstOf, finiteSeconds, finiteSums, jetOf, quotients, rational}
 
 -- all nine numbers are finite
 pub record FiniteJet (j : Jet) : Type 0 where
-  pub point : Finite (record { x = j .x; y = j .y; z = j .z })
-  pub u : Finite (record { x = j .ux; y = j .uy; z = j .uz })
-  pub v : Finite (record { x = j .vx; y = j .vy; z = j .vz })
-
-pub vector-finite : (a : Vector3) → finiteVector a ≡ true → Finite a
-unfolding finiteVector
-vector-finite a h =
-    let z = and-eq-true-iff _ _ .0 h in
-    let y = and-eq-true-iff _ _ .0 (z .0) in
-    record { x = y .0; y = y .1; z = z .1 }
+  pub point : Finite (j .point)
+  pub u : Finite (j .u)
+  pub v : Finite (j .v)
 
 -- what is found was not refused
 passed : (t : Bool) {e : Evaluated} {j : Jet} → cond t e Refused ≡ Found j → (t ≡ true) × (e ≡ Found j)

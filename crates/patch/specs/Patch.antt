@@ -4,6 +4,7 @@ use lib.Ieee.{Float, le}
 use Rattle.float64.specs.Operators.{_⊕_, _⊖_, _⊗_, _⊘_, 0·, 2·}
 use Rattle.float64.specs.Functions.{isFinite}
 use Rattle.vector3.specs.declared.Vector3.{Vector3}
+use Rattle.vector3.specs.Vector3.{distance, finiteVector}
 use Rattle.basis.specs.Basis.{Three, three}
 use Rattle.patch.specs.declared.Derivatives.{Derivatives}
 use Rattle.patch.specs.declared.Sum.{Sum}
@@ -25,8 +26,8 @@ unfoldable pub more : Float → Vector3 → Sum → Sum
 more c p s = record { w = s .w ⊕ c; x = s .x ⊕ c ⊗ p .x; y = s .y ⊕ c ⊗ p .y; z = s .z ⊕ c ⊗ p .z }
 
 -- a control p of the weight w more, at which the functions of u and of v have these derivatives
-unfoldable pub with : Three → Three → Float → Vector3 → Sums → Sums
-with (three a0 a1 a2) (three b0 b1 b2) w p s = record {
+unfoldable pub addControl : Three → Three → Float → Vector3 → Sums → Sums
+addControl (three a0 a1 a2) (three b0 b1 b2) w p s = record {
   value = more (a0 ⊗ b0 ⊗ w) p (s .value);
   u = more (a1 ⊗ b0 ⊗ w) p (s .u);
   v = more (a0 ⊗ b1 ⊗ w) p (s .v);
@@ -70,11 +71,12 @@ mixedOf w s w1 a w2 b p = record {
 unfoldable pub finiteSum : Sum → Bool
 finiteSum s = isFinite (s .w) && isFinite (s .x) && isFinite (s .y) && isFinite (s .z)
 
-unfoldable pub finiteVector : Vector3 → Bool
-finiteVector a = isFinite (a .x) && isFinite (a .y) && isFinite (a .z)
-
 abbrev pub jetOf : Vector3 → Vector3 → Vector3 → Jet
-jetOf p a b = record { x = p .x; y = p .y; z = p .z; ux = a .x; uy = a .y; uz = a .z; vx = b .x; vy = b .y; vz = b .z }
+jetOf p a b = record { point = p; u = a; v = b }
+
+-- how far a jet's point is from a mark
+unfoldable pub fromMark : Vector3 → Jet → Float
+fromMark mark j = distance (j .point) mark
 
 -- from the sums of the value and of the two first derivatives
 unfoldable pub jetOfSums : Sum → Sum → Sum → Jet

@@ -1,6 +1,7 @@
 // The homogeneous sums over the controls of a patch, and the rational quotient of them.
 use float64::is_finite;
 use vector3::Vector3;
+use vector3::finite_vector;
 ghost use mathlib.Core.Bool.{cond};
 ghost use mathlib.Core.Path.{_≡_};
 ghost use Rattle.patch.specs.Patch as Patch;
@@ -30,17 +31,11 @@ pub struct Sums {
     pub vv: Sum,
 }
 
-// A surface point and its two first derivatives.
+// A surface point, and its derivatives along u and along v.
 pub struct Jet {
-    pub x: f64,
-    pub y: f64,
-    pub z: f64,
-    pub ux: f64,
-    pub uy: f64,
-    pub uz: f64,
-    pub vx: f64,
-    pub vy: f64,
-    pub vz: f64,
+    pub point: Vector3,
+    pub u: Vector3,
+    pub v: Vector3,
 }
 
 pub enum Evaluated {
@@ -86,8 +81,8 @@ pub fn more(c: f64, p: Vector3, s: Sum) -> Sum
 }
 
 // A control p more, at which the functions of u and of v have the derivatives a and b.
-pub fn with(a: Derivatives, b: Derivatives, weight: f64, p: Vector3, s: Sums) -> Sums
-    ensures { λ r. ⌜ r ≡ Patch.with (Patch.threeOf a) (Patch.threeOf b) weight p s ⌝ }
+pub fn add_control(a: Derivatives, b: Derivatives, weight: f64, p: Vector3, s: Sums) -> Sums
+    ensures { λ r. ⌜ r ≡ Patch.addControl (Patch.threeOf a) (Patch.threeOf b) weight p s ⌝ }
 {
     let Sums {
         value,
@@ -117,7 +112,8 @@ pub fn point(s: Sum) -> Vector3
     }
 }
 
-fn first(w: f64, s: Sum, p: Vector3) -> Vector3
+// The first derivative from its own sum, with the point p. Here and below w is the weight sum.
+pub fn first(w: f64, s: Sum, p: Vector3) -> Vector3
     ensures { λ r. ⌜ r ≡ Patch.firstOf w s p ⌝ }
 {
     Vector3 {
@@ -127,7 +123,8 @@ fn first(w: f64, s: Sum, p: Vector3) -> Vector3
     }
 }
 
-fn second(w: f64, s: Sum, w1: f64, a: Vector3, p: Vector3) -> Vector3
+// The second derivative along one axis, of which w1 and a are the first derivatives of the weight and of the point.
+pub fn second(w: f64, s: Sum, w1: f64, a: Vector3, p: Vector3) -> Vector3
     ensures { λ r. ⌜ r ≡ Patch.secondOf w s w1 a p ⌝ }
 {
     Vector3 {
@@ -147,16 +144,10 @@ fn mixed(w: f64, s: Sum, w1: f64, a: Vector3, w2: f64, b: Vector3, p: Vector3) -
     }
 }
 
-fn finite_sum(s: Sum) -> bool
+pub fn finite_sum(s: Sum) -> bool
     ensures { λ r. ⌜ r ≡ Patch.finiteSum s ⌝ }
 {
     is_finite(s.w) & is_finite(s.x) & is_finite(s.y) & is_finite(s.z)
-}
-
-fn finite_vector(a: Vector3) -> bool
-    ensures { λ r. ⌜ r ≡ Patch.finiteVector a ⌝ }
-{
-    is_finite(a.x) & is_finite(a.y) & is_finite(a.z)
 }
 
 fn finite_sums(s: Sums) -> bool
@@ -196,35 +187,27 @@ fn finite_seconds(s: Sums, p: Vector3, a: Vector3, b: Vector3) -> bool
         & finite_vector(second(w, vv, v.w, b, p))
 }
 
-fn jet_of(p: Vector3, a: Vector3, b: Vector3) -> Jet
-    ensures { λ r. ⌜ r ≡ Patch.jetOf p a b ⌝ }
-{
-    Jet {
-        x: p.x,
-        y: p.y,
-        z: p.z,
-        ux: a.x,
-        uy: a.y,
-        uz: a.z,
-        vx: b.x,
-        vy: b.y,
-        vz: b.z,
-    }
-}
-
 // The point and its first derivatives, with no test.
 pub fn jet_of_sums(value: Sum, u: Sum, v: Sum) -> Jet
     ensures { λ r. ⌜ r ≡ Patch.jetOfSums value u v ⌝ }
 {
     let p = point(value);
-    jet_of(p, first(value.w, u, p), first(value.w, v, p))
+    Jet {
+        point: p,
+        u: first(value.w, u, p),
+        v: first(value.w, v, p),
+    }
 }
 
 fn jet_if(finite: bool, p: Vector3, a: Vector3, b: Vector3) -> Evaluated
     ensures { λ r. ⌜ r ≡ cond finite (Evaluated.Found (Patch.jetOf p a b)) Evaluated.Refused ⌝ }
 {
     if finite {
-        return Evaluated::Found(jet_of(p, a, b));
+        return Evaluated::Found(Jet {
+            point: p,
+            u: a,
+            v: b,
+        });
     }
     Evaluated::Refused
 }

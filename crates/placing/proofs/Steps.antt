@@ -10,19 +10,23 @@ use Rattle.vector3.specs.declared.Vector3.{Vector3}
 use Rattle.surface.specs.declared.Shape.{Shape}
 use Rattle.surface.specs.declared.Evaluation.{Evaluation}
 use Rattle.surface.specs.Surface.{surface, evaluated}
-use Rattle.inversion.specs.declared.Hint.{Hint}
-use Rattle.chart.specs.declared.Period.{Period}
+use Rattle.chart.specs.declared.Terms.{Terms}
 use Rattle.chart.specs.declared.Placing.{Placing}
+use Rattle.chart.specs.declared.Placing.the-variants as Placing
+use Rattle.chart.specs.Chart as Chart
+use Rattle.inverter.specs.declared.Components.{Components}
+use Rattle.inverter.specs.declared.Components.the-variants as Components
 use Rattle.inverter.specs.Inverter.{placed}
+use Rattle.inverter.specs.Inverter as Inverter
 use Rattle.inverter.specs.Preimage.{derived}
-use Rattle.row.specs.declared.Ended.{Ended}
+use Rattle.row.specs.declared.RowEnd.{RowEnd}
 use Rattle.row.specs.Row.{Rowed, rowInto, written, numberOf, indexOf, leftOf}
-use Rattle.row.specs.RowLaws.{takenOf}
 use Rattle.edges.specs.declared.Edges.{Edges}
 use Rattle.edges.specs.Edges.{singular}
 use Rattle.job.specs.Printout.{mostPrinted, printout}
 use Rattle.job.specs.PrintLaws.{front}
-use Rattle.lent.specs.Lent.{Evaluates, Places, Tells, Prints, jetInto, placingInto, firstOf, edgesInto, printoutInto}
+use Rattle.lent.specs.declared.answers.Answer.{Answer}
+use Rattle.lent.specs.Lent.{Evaluates, Places, Tells, Prints, jetInto, answerOfPlacing, answerOfComponents, takenOf, answerInto, firstOf, edgesInto, printoutInto}
 use Rattle.placing.specs.Boundary.{Rows, evaluatesIf, placesIf, rowsIf, tellsIf, printsIf}
 
 -- ---- an evaluation
@@ -39,33 +43,53 @@ module _ (found : Evaluation) (xs : List Float) {b fit : Bool} (e : b ≡ fit) w
   unfolding evaluatesIf
   jet-fit h k l = rw (sym e ∙ h) (rw (sym k) l)
 
--- ---- on another shape
+-- ---- on the shape, and by the terms, that were read
 
-module _ (ku kv cs ws : List Float) {s t : Shape} where
-  pub evaluated-by : (u v : Float) → s ≡ t → {q : Evaluation} → q ≡ evaluated (surface s ku kv cs ws) u v → q ≡ evaluated (surface t ku kv cs ws) u v
-  evaluated-by u v h k = k ∙ ap (λ x. evaluated (surface x ku kv cs ws) u v) h
+module _ (ku kv cs ws : List Float) {s t : Shape} (h : s ≡ t) where
+  pub evaluated-by : (u v : Float) {q : Evaluation} → q ≡ evaluated (surface s ku kv cs ws) u v → q ≡ evaluated (surface t ku kv cs ws) u v
+  evaluated-by u v e = e ∙ ap (λ x. evaluated (surface x ku kv cs ws) u v) h
 
-  pub derived-by : (u v : Float) (d : Vector3) (b : ℕ) → s ≡ t → {p : Placing} → p ≡ derived (surface s ku kv cs ws) u v d b → p ≡ derived (surface t ku kv cs ws) u v d b
-  derived-by u v d b h k = k ∙ ap (λ x. derived (surface x ku kv cs ws) u v d b) h
+  pub singular-by : (tolerance : Float) {q : Edges} → q ≡ singular (surface s ku kv cs ws) tolerance → q ≡ singular (surface t ku kv cs ws) tolerance
+  singular-by tolerance e = e ∙ ap (λ x. singular (surface x ku kv cs ws) tolerance) h
 
-  pub placed-by : (mark : Vector3) (tolerance : Float) (b : ℕ) → s ≡ t → {h h' : Hint} → h ≡ h' → {pu pu' : Period} → pu ≡ pu' → {pv pv' : Period} → pv ≡ pv' → {p : Placing} → p ≡ placed (surface s ku kv cs ws) mark h tolerance pu pv b → p ≡ placed (surface t ku kv cs ws) mark h' tolerance pu' pv' b
-  placed-by mark tolerance b i {h} {h'} j {pu} {pu'} k {pv} {pv'} l q =
-      q ∙ ap (λ x. placed (surface x ku kv cs ws) mark h tolerance pu pv b) i ∙ ap (λ x. placed (surface t ku kv cs ws) mark x tolerance pu pv b) j ∙ ap (λ x. placed (surface t ku kv cs ws) mark h' tolerance x pv b) k ∙ ap (λ x. placed (surface t ku kv cs ws) mark h' tolerance pu' x b) l
+  pub derived-by : (u v : Float) (d : Vector3) (b : ℕ) {c : Components} → c ≡ derived (surface s ku kv cs ws) u v d b → c ≡ derived (surface t ku kv cs ws) u v d b
+  derived-by u v d b e = e ∙ ap (λ x. derived (surface x ku kv cs ws) u v d b) h
+
+  module _ {k l : Terms} (i : k ≡ l) where
+    pub placed-by : (mark : Vector3) (b : ℕ) {p : Placing} → p ≡ placed (surface s ku kv cs ws) mark k b → p ≡ placed (surface t ku kv cs ws) mark l b
+    placed-by mark b e = e ∙ ap (λ x. placed (surface x ku kv cs ws) mark k b) h ∙ ap (λ x. placed (surface t ku kv cs ws) mark x b) i
+
+    pub rowed-by : (marks : List Float) (room b : ℕ) → rowInto (surface s ku kv cs ws) marks room k b ≡ rowInto (surface t ku kv cs ws) marks room l b
+    rowed-by marks room b = ap (λ x. rowInto (surface x ku kv cs ws) marks room k b) h ∙ ap (λ x. rowInto (surface t ku kv cs ws) marks room x b) i
 
 -- ---- a pair for units of a budget
 
-pub took : {p q : Placing} {b : ℕ} → p ≡ q → takenOf q ≤ b → takenOf p ≤ b
-took e h = omega (arith, ap takenOf e, h)
+placing-taken : (p : Placing) → takenOf (answerOfPlacing p) ≡ Chart.takenOf p
+unfolding answerOfPlacing
+placing-taken (Placing.Pair e n) = refl
+placing-taken (Placing.Refusal number n) = refl
+
+components-taken : (c : Components) → takenOf (answerOfComponents c) ≡ Inverter.takenOf c
+unfolding answerOfComponents
+components-taken (Components.Along x y) = refl
+components-taken (Components.Refusal number n) = refl
+
+module _ {a : Answer} {b : ℕ} where
+  pub took-placing : {p q : Placing} → a ≡ answerOfPlacing p → p ≡ q → Chart.takenOf q ≤ b → takenOf a ≤ b
+  took-placing {p} e h l = omega (arith, ap takenOf e, placing-taken p, ap Chart.takenOf h, l)
+
+  pub took-components : {p q : Components} → a ≡ answerOfComponents p → p ≡ q → Inverter.takenOf q ≤ b → takenOf a ≤ b
+  took-components {p} e h l = omega (arith, ap takenOf e, components-taken p, ap Inverter.takenOf h, l)
 
 abbrev leaves : ℕ → List ℕ → List Float → Places
 leaves number budget pair = record { number = number; budget = budget; pair = pair }
 
-module _ (call : ℕ → Placing) (bs : List ℕ) (xs : List Float) {b fit : Bool} (e : b ≡ fit) where
+module _ (call : ℕ → Answer) (bs : List ℕ) (xs : List Float) {b fit : Bool} (e : b ≡ fit) where
   pub unfit : b ≡ false → leaves 99 bs xs ≡ placesIf fit call bs xs
   unfolding placesIf
   unfit h = rw (sym e ∙ h) refl
 
-  pub fits : b ≡ true → {p : Placing} → p ≡ call (getD bs 0 0) → {n : ℕ} {cs : List ℕ} {ys : List Float} → leaves n cs ys ≡ placingInto p bs xs → leaves n cs ys ≡ placesIf fit call bs xs
+  pub fits : b ≡ true → {a : Answer} → a ≡ call (getD bs 0 0) → {n : ℕ} {cs : List ℕ} {ys : List Float} → leaves n cs ys ≡ answerInto a bs xs → leaves n cs ys ≡ placesIf fit call bs xs
   unfolding placesIf
   fits h q l = rw (sym e ∙ h) (rw (sym q) l)
 
@@ -82,15 +106,10 @@ module _ (row : ℕ → Rowed) (bs ns : List ℕ) (xs : List Float) {b fit : Boo
   unfolding rowsIf
   row-unfit h = rw (sym e ∙ h) refl
 
-  pub row-fits : b ≡ true → {r : Rowed} → r ≡ row (getD bs 0 0) → {d : Ended} {ys : List Float} → (d ≡ r .ended) × (ys ≡ written (r .pairs) xs)
+  pub row-fits : b ≡ true → {r : Rowed} → r ≡ row (getD bs 0 0) → {d : RowEnd} {ys : List Float} → (d ≡ r .ended) × (ys ≡ written (r .pairs) xs)
       → {n : ℕ} {cs ms : List ℕ} → (n ≡ numberOf d) × ((cs ≡ firstOf (leftOf d) bs) × (ms ≡ firstOf (indexOf d) ns)) → ends n cs ms ys ≡ rowsIf fit row bs ns xs
   unfolding rowsIf
   row-fits h q w l = rw (sym e ∙ h) (rw (sym q) (rw (sym (w .0)) (alike (l .0) (l .1 .0) (l .1 .1) (w .1))))
-
-module _ (ku kv cs ws marks : List Float) (room : ℕ) (tolerance : Float) (b : ℕ) {s t : Shape} (i : s ≡ t) where
-  pub rowed-by : {h h' : Hint} → h ≡ h' → {pu pu' : Period} → pu ≡ pu' → {pv pv' : Period} → pv ≡ pv' → rowInto (surface s ku kv cs ws) marks room h tolerance pu pv b ≡ rowInto (surface t ku kv cs ws) marks room h' tolerance pu' pv' b
-  rowed-by {h} {h'} j {pu} {pu'} k {pv} {pv'} l =
-      ap (λ x. rowInto (surface x ku kv cs ws) marks room h tolerance pu pv b) i ∙ ap (λ x. rowInto (surface t ku kv cs ws) marks room x tolerance pu pv b) j ∙ ap (λ x. rowInto (surface t ku kv cs ws) marks room h' tolerance x pv b) k ∙ ap (λ x. rowInto (surface t ku kv cs ws) marks room h' tolerance pu' x b) l
 
 -- ---- the edges
 
@@ -105,9 +124,6 @@ module _ (found : Edges) (ns : List ℕ) (xs : List Float) {b fit : Bool} (e : b
   pub edges-fit : b ≡ true → {q : Edges} → q ≡ found → {n : ℕ} {ms : List ℕ} {ys : List Float} → tell n ms ys ≡ edgesInto q ns xs → tell n ms ys ≡ tellsIf fit found ns xs
   unfolding tellsIf
   edges-fit h k l = rw (sym e ∙ h) (rw (sym k) l)
-
-pub singular-by : (ku kv cs ws : List Float) (tolerance : Float) {s t : Shape} → s ≡ t → {q : Edges} → q ≡ singular (surface s ku kv cs ws) tolerance → q ≡ singular (surface t ku kv cs ws) tolerance
-singular-by ku kv cs ws tolerance h k = k ∙ ap (λ x. singular (surface x ku kv cs ws) tolerance) h
 
 -- ---- a job
 

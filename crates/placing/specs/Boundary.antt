@@ -7,7 +7,6 @@ use lib.Ieee.{Float}
 use Rattle.vector3.specs.declared.Vector3.{Vector3}
 use Rattle.surface.specs.declared.Evaluation.{Evaluation}
 use Rattle.surface.specs.Surface.{Surface, evaluated}
-use Rattle.chart.specs.declared.Placing.{Placing}
 use Rattle.inverter.specs.declared.plane.Frame.{Frame}
 use Rattle.inverter.specs.Inverter.{placed}
 use Rattle.inverter.specs.Plane.{placedOn}
@@ -16,7 +15,8 @@ use Rattle.row.specs.Row.{Rowed, rowInto, written, numberOf, indexOf, leftOf}
 use Rattle.edges.specs.declared.Edges.{Edges}
 use Rattle.edges.specs.Edges.{singular}
 use Rattle.job.specs.Printout.{printout}
-use Rattle.lent.specs.Lent.{hintOf, periodOf, roomy, fitsJet, fitsInversion, fitsRow, fitsDerivative, fitsEdges, fitsJob, Evaluates, jetInto, Places, placingInto, firstOf, Tells, edgesInto, Prints, printoutInto}
+use Rattle.lent.specs.declared.answers.Answer.{Answer}
+use Rattle.lent.specs.Lent.{termsOf, roomy, fitsJet, fitsInversion, fitsRow, fitsDerivative, fitsEdges, fitsJob, Evaluates, jetInto, Places, answerOfPlacing, answerOfComponents, answerInto, firstOf, Tells, edgesInto, Prints, printoutInto}
 
 abbrev pub vector : Float → Float → Float → Vector3
 vector x y z = record { x = x; y = y; z = z }
@@ -33,19 +33,19 @@ evaluates flags s u v jet = evaluatesIf (fitsJet flags (length jet)) (evaluated 
 -- ---- a pair for units of a budget
 
 -- what a call answers, of the budget that is lent
-unfoldable pub placesIf : Bool → (ℕ → Placing) → List ℕ → List Float → Places
+unfoldable pub placesIf : Bool → (ℕ → Answer) → List ℕ → List Float → Places
 placesIf false call budget pair = record { number = 99; budget = budget; pair = pair }
-placesIf true call budget pair = placingInto (call (getD budget 0 0)) budget pair
+placesIf true call budget pair = answerInto (call (getD budget 0 0)) budget pair
 
 unfoldable pub inverts : ℕ → Surface → Vector3 → (hint : List Float) → Float → (pu pv : List Float) → List ℕ → List Float → Places
 inverts flags s mark hint tolerance pu pv budget pair =
-    placesIf (fitsInversion flags (length hint) (length pu) (length pv) (length budget) (length pair)) (placed s mark (hintOf hint) tolerance (periodOf pu) (periodOf pv)) budget pair
+    placesIf (fitsInversion flags (length hint) (length pu) (length pv) (length budget) (length pair)) (λ b. answerOfPlacing (placed s mark (termsOf hint tolerance pu pv) b)) budget pair
 
 unfoldable pub derives : ℕ → Surface → Float → Float → Vector3 → List ℕ → List Float → Places
-derives flags s u v d budget pair = placesIf (fitsDerivative flags (length budget) (length pair)) (derived s u v d) budget pair
+derives flags s u v d budget pair = placesIf (fitsDerivative flags (length budget) (length pair)) (λ b. answerOfComponents (derived s u v d b)) budget pair
 
 unfoldable pub locates : Frame → Vector3 → List ℕ → List Float → Places
-locates f mark budget pair = placesIf (roomy (length budget) (length pair)) (placedOn f mark) budget pair
+locates f mark budget pair = placesIf (roomy (length budget) (length pair)) (λ b. answerOfComponents (placedOn f mark b)) budget pair
 
 -- ---- a row
 
@@ -64,7 +64,7 @@ rowsIf true row budget index answers =
 
 unfoldable pub rows : ℕ → Surface → (marks hint : List Float) → Float → (pu pv : List Float) → List ℕ → List ℕ → List Float → Rows
 rows flags s marks hint tolerance pu pv budget index answers =
-    rowsIf (fitsRow flags (length hint) (length pu) (length pv) (length budget) (length index)) (rowInto s marks (length answers) (hintOf hint) tolerance (periodOf pu) (periodOf pv)) budget index answers
+    rowsIf (fitsRow flags (length hint) (length pu) (length pv) (length budget) (length index)) (rowInto s marks (length answers) (termsOf hint tolerance pu pv)) budget index answers
 
 -- ---- the edges
 

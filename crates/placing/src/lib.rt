@@ -7,27 +7,28 @@ use inverter::invert;
 use inverter::invert_plane;
 use job::MOST_PRINTED;
 use job::job;
+use lent::answer_of_components;
+use lent::answer_of_placing;
 use lent::fits_derivative;
 use lent::fits_edges;
 use lent::fits_inversion;
 use lent::fits_jet;
 use lent::fits_job;
 use lent::fits_row;
-use lent::hint_of;
+use lent::lay_answer;
 use lent::lay_edges;
 use lent::lay_ended;
 use lent::lay_jet;
-use lent::lay_placing;
 use lent::lay_printout;
-use lent::period_of;
 use lent::roomy;
+use lent::terms_of;
 use row::row;
 use surface::evaluate;
 use surface::shape_of;
 use vector3::Vector3;
 ghost use mathlib.Core.Path.{_≡_};
 ghost use Rattle.surface.specs.Flags.{shapeOf};
-ghost use Rattle.surface.specs.Surface.{surface};
+ghost use Rattle.surface.specs.Lent.{atEntry};
 ghost use Rattle.placing.specs.Boundary.{vector, evaluates, inverts, rows, derives, tells, locates, prints};
 
 // Answered, before any other check and with nothing written, where flags are above 3, a hint or a period has another count of numbers, or a slice is too short for what is to be written. No document gives this number a meaning of its own.
@@ -49,7 +50,7 @@ pub extern "C" fn placing_evaluate(
     v: f64,
     jet: &mut [f64],
 ) -> u64
-    ensures { λ r. ⌜ record { number = r; jet = now (jet .exit) } ≡ evaluates flags (surface (shapeOf du dv nu nv flags) (now (ku .entry)) (now (kv .entry)) (now (controls .entry)) (now (weights .entry))) u v (now (jet .entry)) ⌝ }
+    ensures { λ r. ⌜ record { number = r; jet = now (jet .exit) } ≡ evaluates flags (atEntry (shapeOf du dv nu nv flags) ku kv controls weights) u v (now (jet .entry)) ⌝ }
 {
     if !fits_jet(flags, jet.len()) {
         return UNFIT;
@@ -81,7 +82,7 @@ pub extern "C" fn placing_invert(
     budget: &mut [u64],
     pair: &mut [f64],
 ) -> u64
-    ensures { λ r. ⌜ record { number = r; budget = now (budget .exit); pair = now (pair .exit) } ≡ inverts flags (surface (shapeOf du dv nu nv flags) (now (ku .entry)) (now (kv .entry)) (now (controls .entry)) (now (weights .entry))) (vector x y z) (now (hint .entry)) tolerance (now (pu .entry)) (now (pv .entry)) (now (budget .entry)) (now (pair .entry)) ⌝ }
+    ensures { λ r. ⌜ record { number = r; budget = now (budget .exit); pair = now (pair .exit) } ≡ inverts flags (atEntry (shapeOf du dv nu nv flags) ku kv controls weights) (vector x y z) (now (hint .entry)) tolerance (now (pu .entry)) (now (pv .entry)) (now (budget .entry)) (now (pair .entry)) ⌝ }
 {
     if !fits_inversion(
         flags,
@@ -95,23 +96,9 @@ pub extern "C" fn placing_invert(
     }
     let shape = shape_of(du, dv, nu, nv, flags);
     let mark = Vector3 { x, y, z };
-    let hint = hint_of(hint);
-    let pu = period_of(pu);
-    let pv = period_of(pv);
-    let placing = invert(
-        shape,
-        ku,
-        kv,
-        controls,
-        weights,
-        mark,
-        hint,
-        tolerance,
-        pu,
-        pv,
-        budget[0],
-    );
-    lay_placing(placing, budget, pair)
+    let terms = terms_of(hint, tolerance, pu, pv);
+    let placing = invert(shape, ku, kv, controls, weights, mark, terms, budget[0]);
+    lay_answer(answer_of_placing(placing), budget, pair)
 }
 
 // A row of marks, three coordinates each, for two numbers an answer. The index is that of the mark refused, if one was.
@@ -135,7 +122,7 @@ pub extern "C" fn placing_row(
     index: &mut [u64],
     answers: &mut [f64],
 ) -> u64
-    ensures { λ r. ⌜ record { number = r; budget = now (budget .exit); index = now (index .exit); answers = now (answers .exit) } ≡ rows flags (surface (shapeOf du dv nu nv flags) (now (ku .entry)) (now (kv .entry)) (now (controls .entry)) (now (weights .entry))) (now (marks .entry)) (now (hint .entry)) tolerance (now (pu .entry)) (now (pv .entry)) (now (budget .entry)) (now (index .entry)) (now (answers .entry)) ⌝ }
+    ensures { λ r. ⌜ record { number = r; budget = now (budget .exit); index = now (index .exit); answers = now (answers .exit) } ≡ rows flags (atEntry (shapeOf du dv nu nv flags) ku kv controls weights) (now (marks .entry)) (now (hint .entry)) tolerance (now (pu .entry)) (now (pv .entry)) (now (budget .entry)) (now (index .entry)) (now (answers .entry)) ⌝ }
 {
     if !fits_row(
         flags,
@@ -155,10 +142,7 @@ pub extern "C" fn placing_row(
         controls,
         weights,
         marks,
-        hint_of(hint),
-        tolerance,
-        period_of(pu),
-        period_of(pv),
+        terms_of(hint, tolerance, pu, pv),
         budget[0],
         answers,
     );
@@ -185,15 +169,15 @@ pub extern "C" fn placing_derivative(
     budget: &mut [u64],
     pair: &mut [f64],
 ) -> u64
-    ensures { λ r. ⌜ record { number = r; budget = now (budget .exit); pair = now (pair .exit) } ≡ derives flags (surface (shapeOf du dv nu nv flags) (now (ku .entry)) (now (kv .entry)) (now (controls .entry)) (now (weights .entry))) u v (vector x y z) (now (budget .entry)) (now (pair .entry)) ⌝ }
+    ensures { λ r. ⌜ record { number = r; budget = now (budget .exit); pair = now (pair .exit) } ≡ derives flags (atEntry (shapeOf du dv nu nv flags) ku kv controls weights) u v (vector x y z) (now (budget .entry)) (now (pair .entry)) ⌝ }
 {
     if !fits_derivative(flags, budget.len(), pair.len()) {
         return UNFIT;
     }
     let shape = shape_of(du, dv, nu, nv, flags);
     let d = Vector3 { x, y, z };
-    let placing = derivative(shape, ku, kv, controls, weights, u, v, d, budget[0]);
-    lay_placing(placing, budget, pair)
+    let components = derivative(shape, ku, kv, controls, weights, u, v, d, budget[0]);
+    lay_answer(answer_of_components(components), budget, pair)
 }
 
 // The edges along u at the lower and upper end of v, then those along v at the ends of u: whether each collapses, and five numbers of each that does.
@@ -212,7 +196,7 @@ pub extern "C" fn placing_nurbs_singular(
     collapsed: &mut [u64],
     edges: &mut [f64],
 ) -> u64
-    ensures { λ r. ⌜ record { number = r; collapsed = now (collapsed .exit); edges = now (edges .exit) } ≡ tells flags (surface (shapeOf du dv nu nv flags) (now (ku .entry)) (now (kv .entry)) (now (controls .entry)) (now (weights .entry))) tolerance (now (collapsed .entry)) (now (edges .entry)) ⌝ }
+    ensures { λ r. ⌜ record { number = r; collapsed = now (collapsed .exit); edges = now (edges .exit) } ≡ tells flags (atEntry (shapeOf du dv nu nv flags) ku kv controls weights) tolerance (now (collapsed .entry)) (now (edges .entry)) ⌝ }
 {
     if !fits_edges(flags, collapsed.len(), edges.len()) {
         return UNFIT;
@@ -263,8 +247,8 @@ pub extern "C" fn placing_plane(
         },
     };
     let mark = Vector3 { x, y, z };
-    let placing = invert_plane(frame, mark, budget[0]);
-    lay_placing(placing, budget, pair)
+    let components = invert_plane(frame, mark, budget[0]);
+    lay_answer(answer_of_components(components), budget, pair)
 }
 
 // The printout of a job file, and how many bytes it has. A malformed file is no refusal of the call: it prints `refused 12 at 0`.

@@ -11,9 +11,10 @@ pub record Decoded (bytes : List ℕ) (count : ℕ) (words : List ℕ) (numbers 
   pub words-are : (k : ℕ) → k < count → getD words k 0 ≡ littleEndian 8 bytes (8 * k)
   pub numbers-are : (k : ℕ) → k < count → getD numbers k nan ≡ ofBits binary64 (littleEndian 8 bytes (8 * k))
 
--- The first `count` numbers are the floats of the words. The two facts on lengths follow from the first; they are stated so that the proof that Rattle makes of `&words[..count]` finds them.
-pub record Held (count : ℕ) (words : List ℕ) (numbers : List Float) : Type 0 where
+-- A record in its three forms. The facts on lengths are stated so that the proof that Rattle makes of `&words[..count]` finds them.
+pub record Held (bytes : List ℕ) (count : ℕ) (words : List ℕ) (numbers : List Float) : Type 0 where
   pub few : count ≤ 4094
+  pub bytes-count : 8 * count ≡ length (take (8 * count) bytes)
   pub words-count : count ≡ length (take count words)
   pub numbers-count : count ≡ length (take count numbers)
-  pub floats : (k : ℕ) → k < count → getD numbers k nan ≡ ofBits binary64 (getD words k 0)
+  pub decoded : Decoded bytes count words numbers

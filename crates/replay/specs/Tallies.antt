@@ -4,12 +4,12 @@ use mathlib.Core.List.{List}
 use Prim.Native.Nat.{ℕ, _+_, _%_, _^_}
 use lib.Dec.{ltb}
 use lib.ListN.{getD, set, replicate}
-use Rattle.replay.specs.declared.tally.Outcome.{Outcome}
-use Rattle.replay.specs.declared.tally.Outcome.the-variants.{Answers, Unread}
+use Rattle.replay.specs.declared.tally.Comparison.{Comparison}
+use Rattle.replay.specs.declared.tally.Comparison.the-variants.{Answers, Unread}
 use Rattle.replay.specs.declared.tally.Tally.{Tally}
 
 abbrev pub empty : Tally
-empty = record { agree = replicate 15 0; differ = replicate 15 0; unread = 0 }
+empty = record { agree = replicate 22 0; differ = replicate 22 0; unread = 0 }
 
 abbrev pub sum : ℕ → ℕ → ℕ
 sum a b = (a + b) % 2 ^ 64
@@ -21,8 +21,8 @@ more xs k n = set xs k (sum (getD xs k 0) n)
 abbrev pub oneUnread : Tally → Tally
 oneUnread t = record { agree = t .agree; differ = t .differ; unread = sum (t .unread) 1 }
 
-unfoldable pub tallied : ℕ → Outcome → Tally → Tally
+unfoldable pub tallied : ℕ → Comparison → Tally → Tally
 tallied kind Unread t = oneUnread t
 tallied kind (Answers a d) t =
-    cond (ltb 14 kind) (oneUnread t)
+    cond (ltb 21 kind) (oneUnread t)
     (record { agree = more (t .agree) kind a; differ = more (t .differ) kind d; unread = t .unread })

@@ -107,12 +107,3 @@ pub fn lend(numbers: &[f64], p: Part) -> &[f64]
     let to = p.to;
     &numbers[from..to]
 }
-
-pub fn lend_words(words: &[u64], p: Part) -> &[u64]
-    requires { ⌜ Within (length (now words)) p ⌝ }
-    ensures { λ r. ⌜ now r ≡ take (p .to - p .from) (drop (p .from) (now (words .entry))) ⌝ }
-{
-    let from = p.from;
-    let to = p.to;
-    &words[from..to]
-}

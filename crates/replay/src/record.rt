@@ -38,10 +38,10 @@ fn no_record(input: Input) -> Next
     }
 }
 
-// Reads the next record. Its words come to stand from index 0 on, as they are and as floats.
-pub fn next_record(words: &mut [u64], numbers: &mut [f64]) -> Next
-    requires { ⌜ (length (now words) ≡ 4094) × (length (now numbers) ≡ 4094) ⌝ }
-    ensures { λ r. ⌜ Held (r .count) (now (words .exit)) (now (numbers .exit)) ⌝ }
+// Reads the next record. Its words come to stand from index 0 on, as bytes, as they are and as floats.
+pub fn next_record(bytes: &mut [u8], words: &mut [u64], numbers: &mut [f64]) -> Next
+    requires { ⌜ (length (now bytes) ≡ 65536) × (length (now words) ≡ 4094) × (length (now numbers) ≡ 4094) ⌝ }
+    ensures { λ r. ⌜ Held (now (bytes .exit)) (r .count) (now (words .exit)) (now (numbers .exit)) ⌝ }
 {
     let mut head = [0u8; 16];
     let got = io::read_full(STDIN_FILENO, &mut head);
@@ -57,12 +57,11 @@ pub fn next_record(words: &mut [u64], numbers: &mut [f64]) -> Next
         return no_record(Input::Long);
     }
     let count = count as usize;
-    let mut bytes = io::large_buffer();
     let got = io::read_full(STDIN_FILENO, &mut bytes[..8 * count]);
     if got < 8 * count {
         return no_record(Input::Short);
     }
-    decode(&bytes, count, words, numbers);
+    decode(bytes, count, words, numbers);
     Next {
         input: Input::Record,
         kind,
@@ -70,8 +69,8 @@ pub fn next_record(words: &mut [u64], numbers: &mut [f64]) -> Next
     }
 }
 
-fn decode(bytes: &[u8; 65536], count: usize, words: &mut [u64], numbers: &mut [f64])
-    requires { ⌜ (count ≤ 4094) × (length (now words) ≡ 4094) × (length (now numbers) ≡ 4094) ⌝ }
+fn decode(bytes: &[u8], count: usize, words: &mut [u64], numbers: &mut [f64])
+    requires { ⌜ (count ≤ 4094) × (length (now bytes) ≡ 65536) × (length (now words) ≡ 4094) × (length (now numbers) ≡ 4094) ⌝ }
     ensures { λ r. ⌜ Decoded (now (bytes .entry)) count (now (words .exit)) (now (numbers .exit)) ⌝ }
 {
     for i in 0..count {

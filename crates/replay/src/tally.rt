@@ -7,10 +7,10 @@ ghost use Prim.Native.Nat.{_<_};
 ghost use Rattle.replay.specs.Tallies.{empty, oneUnread, tallied};
 
 // One more than the last kind of a record.
-const KINDS: usize = 15;
+const KINDS: usize = 22;
 
 // How many answers of a record agree, and how many differ.
-pub enum Outcome {
+pub enum Comparison {
     Answers { agree: u64, differ: u64 },
     // The record doesn't hold what its counts say.
     Unread,
@@ -24,21 +24,21 @@ pub struct Tally {
 }
 
 // A tally with one record more, and whether there may be another.
-pub struct Turn {
+pub struct Pass {
     pub tally: Tally,
     pub more: bool,
 }
 
-pub fn one_answer(agrees: bool) -> Outcome
-    ensures { λ r. ⌜ r ≡ cond agrees (Outcome.Answers 1 0) (Outcome.Answers 0 1) ⌝ }
+pub fn one_answer(agrees: bool) -> Comparison
+    ensures { λ r. ⌜ r ≡ cond agrees (Comparison.Answers 1 0) (Comparison.Answers 0 1) ⌝ }
 {
     if agrees {
-        return Outcome::Answers {
+        return Comparison::Answers {
             agree: 1,
             differ: 0,
         };
     }
-    Outcome::Answers {
+    Comparison::Answers {
         agree: 0,
         differ: 1,
     }
@@ -56,13 +56,13 @@ impl Tally {
     }
 
     // A record more. One of a kind that is none is not read. No sum wraps: it would take 2^52 records.
-    pub fn with(mut self, kind: u64, outcome: Outcome) -> Self
+    pub fn with(mut self, kind: u64, outcome: Comparison) -> Self
         ensures { λ r. ⌜ r ≡ tallied kind outcome self ⌝ }
     {
-        let Outcome::Answers { agree, differ } = outcome else {
+        let Comparison::Answers { agree, differ } = outcome else {
             return self.one_unread();
         };
-        if 14 < kind {
+        if 21 < kind {
             return self.one_unread();
         }
         let k = kind as usize;
@@ -79,14 +79,15 @@ impl Tally {
     }
 }
 
-pub fn print_line(name: &[u8], tally: Tally, kind: usize)
-    requires { ⌜ kind < 15 ⌝ }
+pub fn print_line(name: &[u8], tally: Tally, kind: u64)
+    requires { ⌜ kind < 22 ⌝ }
 {
+    let k = kind as usize;
     io::write_all(STDOUT_FILENO, name);
     io::write_all(STDOUT_FILENO, b" ");
-    io::print_decimal(STDOUT_FILENO, tally.agree[kind]);
+    io::print_decimal(STDOUT_FILENO, tally.agree[k]);
     io::write_all(STDOUT_FILENO, b" agree, ");
-    io::print_decimal(STDOUT_FILENO, tally.differ[kind]);
+    io::print_decimal(STDOUT_FILENO, tally.differ[k]);
     io::write_all(STDOUT_FILENO, b" differ\n");
 }
 

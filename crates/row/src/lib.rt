@@ -1,25 +1,38 @@
 // A row of marks on one surface: each answer is the hint of the next mark, and one budget serves all.
 mod marks;
+mod one;
 
-use chart::Period;
+use chart::Terms;
 use chart::sound_terms;
-use inversion::Hint;
 use marks::misfit;
 use marks::place_marks;
-use scaled::Scaling;
-use scaled::scaling_of;
-use surface::Checked;
+use newton::End;
+pub use one::step;
+use scaled::Acceptance;
+use scaled::Accepted;
+use scaled::accept;
 use surface::Shape;
-use surface::check;
 ghost use mathlib.Core.Path.{_≡_};
 ghost use mathlib.Core.Bool.{false};
 ghost use lib.ListN.{length};
-ghost use Rattle.surface.specs.Surface.{surface};
-ghost use Rattle.scaled.specs.Scaled.{Scaled};
+ghost use Rattle.surface.specs.Lent.{surfaceOf, atEntry};
+ghost use Rattle.scaled.specs.Accepted.{Accepts};
 ghost use Rattle.row.specs.Row.{marksOf, misfit, rowed, rowInto, written};
 
+// What a row carries from mark to mark: the terms, with the answer before for their hint, and the budget left.
+pub struct Progress {
+    pub terms: Terms,
+    pub left: u64,
+}
+
+// One mark: its end, and what is carried on; or the number of a refusal and the budget left.
+pub enum Stepped {
+    Placed(End, Progress),
+    Refusal(u64, u64),
+}
+
 // Every mark was placed, with the budget left; or the number of a refusal, the index of its mark and the budget left.
-pub enum Ended {
+pub enum RowEnd {
     Placed(u64),
     Refusal(u64, usize, u64),
 }
@@ -32,34 +45,26 @@ pub fn row(
     controls: &[f64],
     weights: &[f64],
     marks: &[f64],
-    hint: Hint,
-    tolerance: f64,
-    pu: Period,
-    pv: Period,
+    terms: Terms,
     budget: u64,
     answers: &mut [f64],
-) -> Ended
-    ensures { λ r. ⌜ r ≡ rowInto (surface shape (now (ku .entry)) (now (kv .entry)) (now (controls .entry)) (now (weights .entry))) (now (marks .entry)) (length (now (answers .entry))) hint tolerance pu pv budget .ended ⌝ }
-    ensures { λ _. ⌜ now (answers .exit) ≡ written (rowInto (surface shape (now (ku .entry)) (now (kv .entry)) (now (controls .entry)) (now (weights .entry))) (now (marks .entry)) (length (now (answers .entry))) hint tolerance pu pv budget .pairs) (now (answers .entry)) ⌝ }
+) -> RowEnd
+    ensures { λ r. ⌜ r ≡ rowInto (atEntry shape ku kv controls weights) (now (marks .entry)) (length (now (answers .entry))) terms budget .ended ⌝ }
+    ensures { λ _. ⌜ now (answers .exit) ≡ written (rowInto (atEntry shape ku kv controls weights) (now (marks .entry)) (length (now (answers .entry))) terms budget .pairs) (now (answers .entry)) ⌝ }
 {
     if misfit(marks.len(), answers.len()) {
-        return Ended::Refusal(11, 0, budget);
+        return RowEnd::Refusal(11, 0, budget);
     }
-    let checked = check(shape, ku, kv, controls, weights);
-    match checked {
-        Checked::Refusal(n) => Ended::Refusal(n, 0, budget),
-        Checked::Scale(largest) => row_checked(
-            shape,
+    match accept(shape, ku, kv, controls, weights) {
+        Acceptance::Refusal(n) => RowEnd::Refusal(n, 0, budget),
+        Acceptance::Accepted(accepted) => row_checked(
+            accepted,
             ku,
             kv,
             controls,
             weights,
-            scaling_of(ku, kv, controls, largest),
             marks,
-            hint,
-            tolerance,
-            pu,
-            pv,
+            terms,
             budget,
             answers,
         ),
@@ -68,40 +73,26 @@ pub fn row(
 
 // On a surface that passed its checks, with room for every answer.
 fn row_checked(
-    shape: Shape,
+    accepted: Accepted,
     ku: &[f64],
     kv: &[f64],
     controls: &[f64],
     weights: &[f64],
-    scale: Scaling,
     marks: &[f64],
-    hint: Hint,
-    tolerance: f64,
-    pu: Period,
-    pv: Period,
+    terms: Terms,
     budget: u64,
     answers: &mut [f64],
-) -> Ended
-    requires { ⌜ Scaled (surface shape (now ku) (now kv) (now controls) (now weights)) scale × (misfit (length (now marks)) (length (now answers)) ≡ false) ⌝ }
-    ensures { λ r. ⌜ r ≡ rowed (surface shape (now (ku .entry)) (now (kv .entry)) (now (controls .entry)) (now (weights .entry))) (marksOf (now (marks .entry))) hint tolerance pu pv budget .ended ⌝ }
-    ensures { λ _. ⌜ now (answers .exit) ≡ written (rowed (surface shape (now (ku .entry)) (now (kv .entry)) (now (controls .entry)) (now (weights .entry))) (marksOf (now (marks .entry))) hint tolerance pu pv budget .pairs) (now (answers .entry)) ⌝ }
+) -> RowEnd
+    requires { ⌜ Accepts (surfaceOf (accepted .shape) ku kv controls weights) accepted × (misfit (length (now marks)) (length (now answers)) ≡ false) ⌝ }
+    ensures { λ r. ⌜ r ≡ rowed (atEntry (accepted .shape) ku kv controls weights) (marksOf (now (marks .entry))) terms budget .ended ⌝ }
+    ensures { λ _. ⌜ now (answers .exit) ≡ written (rowed (atEntry (accepted .shape) ku kv controls weights) (marksOf (now (marks .entry))) terms budget .pairs) (now (answers .entry)) ⌝ }
 {
-    if !sound_terms(hint, tolerance, pu, pv) {
-        return Ended::Refusal(7, 0, budget);
+    if !sound_terms(terms) {
+        return RowEnd::Refusal(7, 0, budget);
     }
-    place_marks(
-        shape,
-        ku,
-        kv,
-        controls,
-        weights,
-        scale,
-        marks,
-        hint,
-        tolerance,
-        pu,
-        pv,
-        budget,
-        answers,
-    )
+    let first = Progress {
+        terms,
+        left: budget,
+    };
+    place_marks(accepted, ku, kv, controls, weights, marks, first, answers)
 }

@@ -1,20 +1,17 @@
 // The marks of a row, one after another.
-use crate::Ended;
-use chart::Period;
-use chart::Placing;
-use chart::invert_checked;
-use inversion::Hint;
-use scaled::Scaling;
-use surface::Shape;
+use crate::Progress;
+use crate::RowEnd;
+use crate::Stepped;
+use crate::one::step;
+use scaled::Accepted;
 use vector3::Vector3;
 ghost use mathlib.Core.Path.{_≡_};
 ghost use mathlib.Core.Bool.{false};
 ghost use Prim.Native.Nat.{_+_, _*_, _≤_};
 ghost use lib.ListN.{length};
-ghost use Rattle.surface.specs.Surface.{surface};
-ghost use Rattle.scaled.specs.Scaled.{Scaled};
-ghost use Rattle.inverter.specs.Inverter.{placed};
-ghost use Rattle.row.specs.Row.{marksOf, misfit, inTurn, written};
+ghost use Rattle.surface.specs.Lent.{surfaceOf, atEntry};
+ghost use Rattle.scaled.specs.Accepted.{Accepts};
+ghost use Rattle.row.specs.Row.{marksOf, misfit, stepped, inTurn, written};
 ghost use Rattle.row.specs.Turns.{markAt, fronted};
 
 pub(crate) fn misfit(coordinates: usize, room: usize) -> bool
@@ -23,54 +20,39 @@ pub(crate) fn misfit(coordinates: usize, room: usize) -> bool
     (coordinates % 3 != 0) | (room < 2 * (coordinates / 3))
 }
 
-// From the caller's hint, if there is one.
 pub(crate) fn place_marks(
-    shape: Shape,
+    accepted: Accepted,
     ku: &[f64],
     kv: &[f64],
     controls: &[f64],
     weights: &[f64],
-    scale: Scaling,
     marks: &[f64],
-    first: Hint,
-    tolerance: f64,
-    pu: Period,
-    pv: Period,
-    budget: u64,
+    first: Progress,
     answers: &mut [f64],
-) -> Ended
-    requires { ⌜ Scaled (surface shape (now ku) (now kv) (now controls) (now weights)) scale × (misfit (length (now marks)) (length (now answers)) ≡ false) ⌝ }
-    ensures { λ r. ⌜ r ≡ inTurn (surface shape (now (ku .entry)) (now (kv .entry)) (now (controls .entry)) (now (weights .entry))) tolerance pu pv 0 (marksOf (now (marks .entry))) first budget .ended ⌝ }
-    ensures { λ _. ⌜ now (answers .exit) ≡ written (inTurn (surface shape (now (ku .entry)) (now (kv .entry)) (now (controls .entry)) (now (weights .entry))) tolerance pu pv 0 (marksOf (now (marks .entry))) first budget .pairs) (now (answers .entry)) ⌝ }
+) -> RowEnd
+    requires { ⌜ Accepts (surfaceOf (accepted .shape) ku kv controls weights) accepted × (misfit (length (now marks)) (length (now answers)) ≡ false) ⌝ }
+    ensures { λ r. ⌜ r ≡ inTurn (atEntry (accepted .shape) ku kv controls weights) 0 (marksOf (now (marks .entry))) first .ended ⌝ }
+    ensures { λ _. ⌜ now (answers .exit) ≡ written (inTurn (atEntry (accepted .shape) ku kv controls weights) 0 (marksOf (now (marks .entry))) first .pairs) (now (answers .entry)) ⌝ }
 {
-    let mut hint = first;
-    let mut left = budget;
+    let mut progress = first;
     for i in 0..marks.len() / 3 {
         let at = 2 * i;
         let mark = mark_at(marks, i);
         match place_mark(
-            shape,
+            accepted,
             ku,
             kv,
             controls,
             weights,
-            scale,
             mark,
-            hint,
-            tolerance,
-            pu,
-            pv,
-            left,
+            progress,
             &mut answers[at..],
         ) {
-            Placing::Refusal(number, taken) => return Ended::Refusal(number, i, left - taken),
-            Placing::Pair(u, v, taken) => {
-                hint = Hint::At(u, v);
-                left -= taken;
-            }
+            Stepped::Refusal(number, left) => return RowEnd::Refusal(number, i, left),
+            Stepped::Placed(_, next) => progress = next,
         }
     }
-    Ended::Placed(left)
+    RowEnd::Placed(progress.left)
 }
 
 fn mark_at(marks: &[f64], i: usize) -> Vector3
@@ -86,42 +68,24 @@ fn mark_at(marks: &[f64], i: usize) -> Vector3
 
 // A pair is written at the front of the rest of the answers.
 fn place_mark(
-    shape: Shape,
+    accepted: Accepted,
     ku: &[f64],
     kv: &[f64],
     controls: &[f64],
     weights: &[f64],
-    scale: Scaling,
     mark: Vector3,
-    hint: Hint,
-    tolerance: f64,
-    pu: Period,
-    pv: Period,
-    budget: u64,
+    progress: Progress,
     rest: &mut [f64],
-) -> Placing
-    requires { ⌜ Scaled (surface shape (now ku) (now kv) (now controls) (now weights)) scale × (2 ≤ length (now rest)) ⌝ }
-    ensures { λ r. ⌜ r ≡ placed (surface shape (now (ku .entry)) (now (kv .entry)) (now (controls .entry)) (now (weights .entry))) mark hint tolerance pu pv budget ⌝ }
+) -> Stepped
+    requires { ⌜ Accepts (surfaceOf (accepted .shape) ku kv controls weights) accepted × (2 ≤ length (now rest)) ⌝ }
+    ensures { λ r. ⌜ r ≡ stepped (atEntry (accepted .shape) ku kv controls weights) mark progress ⌝ }
     ensures { λ r. ⌜ now (rest .exit) ≡ fronted r (now (rest .entry)) ⌝ }
 {
-    let placing = invert_checked(
-        shape,
-        ku,
-        kv,
-        controls,
-        weights,
-        scale,
-        mark,
-        hint,
-        tolerance,
-        pu,
-        pv,
-        budget,
-    );
-    let Placing::Pair(u, v, _) = placing else {
-        return placing;
+    let stepped = step(accepted, ku, kv, controls, weights, mark, progress);
+    let Stepped::Placed(end, _) = stepped else {
+        return stepped;
     };
-    rest[0] = u;
-    rest[1] = v;
-    placing
+    rest[0] = end.u;
+    rest[1] = end.v;
+    stepped
 }

@@ -1,2 +1,2 @@
-pub mod SizeSteps
+pub mod AcceptSteps
 pub mod FirstOrderSteps

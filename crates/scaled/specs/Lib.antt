@@ -1,3 +1,3 @@
 pub mod Magnitude
 pub mod PartLaws
-pub mod Scaled
+pub mod Accepted

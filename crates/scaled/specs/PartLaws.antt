@@ -1,29 +1,30 @@
 -- An evaluation of a bounded surface by the values and first derivatives of the functions, which stand in a row each. Assumes nothing.
-use mathlib.Core.Path.{_≡_, sym, ap, _∙_}
+use mathlib.Core.Path.{_≡_, refl, sym, _∙_}
 use mathlib.Core.Bool.{true}
 use mathlib.Core.List.{List, map}
-use Prim.Native.Nat.{ℕ, suc, _+_, _*_, _≤_, _<_}
-use native.Mathlib.Numerals.{add-one}
+use Prim.Native.Nat.{ℕ, suc, _+_, _<_}
 use native.Mathlib.Omega.{arith}
-use lib.ListN.{length, take, length-map, length-take}
-use lib.Ieee.{Float, le}
+use lib.ListN.{take, List·getD-map}
+use lib.Seq.{getD-take}
+use lib.Ieee.{Float, nan, le}
 use Rattle.spline.specs.declared.parameter.KnotSide.the-variants.{Right}
 use Rattle.spline.specs.Knots.{refusalOfKnots}
 use Rattle.basis.specs.declared.Place.{Place}
-use Rattle.basis.specs.Basis.{Three, Sample, refused, sample}
+use Rattle.basis.specs.Basis.{Three, three, Sample, refused, sample}
 use Rattle.basis.specs.BasisLaws.{support}
 use Rattle.basis.specs.Parts.{valueOf, firstOf, partOf, shownPart}
 use Rattle.patch.specs.declared.Sum.{Sum}
 use Rattle.patch.specs.declared.Sums.{Sums}
 use Rattle.patch.specs.declared.Evaluated.the-variants.{Found}
-use Rattle.patch.specs.Patch.{emptySum, jetOfSums}
+use Rattle.patch.specs.Patch.{jetOfSums}
 use Rattle.surface.specs.declared.Counts.{Counts}
-use Rattle.surface.specs.Surface.{Surface, sampleU, sampleV, evaluateBy, refusalOfSurface, scaleOf}
+use Rattle.surface.specs.Sums.{rowsOf, columnsOf}
+use Rattle.surface.specs.Surface.{Surface, sampleU, sampleV, evaluateBy, refusalOfSurface, scaleOf, functionAt, sums}
 use Rattle.surface.specs.SurfaceLaws.{accepted-surface}
 use Rattle.surface.specs.Lent.{axisOf, sampleOn}
 use Rattle.surface.specs.PatchLaws.{patch-below}
-use Rattle.surface.specs.Net.{overBy, term, sequence, numberAt, Patch, Weighed, sums, sumBy}
-use Rattle.surface.specs.NetLaws.{take-sequence, value-alone, u-alone, v-alone}
+use Rattle.surface.specs.Net.{Patch, WeighedNet, numberAt, sumBy}
+use Rattle.surface.specs.SumLaws.{value-alone, u-alone, v-alone}
 use Rattle.scaled.specs.Magnitude.{Bounded, leastWeight, bounded-found}
 
 -- ---- one axis
@@ -32,7 +33,6 @@ use Rattle.scaled.specs.Magnitude.{Bounded, leastWeight, bounded-found}
 record Functions (n : Counts) (p : Place) (s : Sample) : Type 0 where
   all : List Three
   is : s ≡ sample (p .start) all
-  count : length all ≡ n .degree + 1
   below : p .start + n .degree < n .controls
 
 module _ (degree : ℕ) (p : Place) (found : p .found ≡ true) where
@@ -41,20 +41,20 @@ module _ (degree : ℕ) (p : Place) (found : p .found ≡ true) where
   sampled f row refused e = let z : _≡_ {A = ℕ} 0 1 = cc (simp found at e) in absurd (omega arith)
   sampled f row (sample i ts) e = (ts, let q : i ≡ p .start = cc (simp found at e) in rw q)
 
-  row-is : (f : Three → Float) (row : List Float) (ts : List Three) {s : Sample} → s ≡ sample (p .start) ts → length ts ≡ degree + 1 → shownPart degree p row ≡ partOf f s
-      → sequence (numberAt row) (degree + 1) 0 ≡ map f ts
+  -- a row that shows a part of a sample holds it of each function
+  row-is : (f : Three → Float) → f (three nan nan nan) ≡ nan → (row : List Float) (ts : List Three) {s : Sample} → s ≡ sample (p .start) ts → shownPart degree p row ≡ partOf f s
+      → (n : ℕ) → n < degree + 1 → f (functionAt ts n) ≡ numberAt row n
   unfolding shownPart partOf
-  row-is f row ts h l e =
-      let q : take (suc degree) row ≡ map f ts = cc (simp (found, h) at e) in
-      let few : degree + 1 ≤ length row = omega (arith, l, length-map ts f, ap length q, length-take (suc degree) row) in
-      sym (take-sequence row (degree + 1) few) ∙ ap (λ (n : ℕ). take n row) (add-one degree) ∙ q
+  row-is f e row ts h shows n l =
+      let q : take (suc degree) row ≡ map f ts = cc (simp (found, h) at shows) in
+      sym (List·getD-map f ts n (three nan nan nan)) ∙ rw (e, ← q, getD-take (suc degree) row n nan (omega arith))
 
 module _ (n : Counts) (ks : List Float) (t : Float) (p : Place) (row : List Float) (ok : refusalOfKnots (axisOf n ks) ≡ 0) (found : p .found ≡ true) (e : shownPart (n .degree) p row ≡ partOf valueOf (sampleOn n ks t)) where
   functions : Functions n p (sampleOn n ks t)
   functions =
       let z = sampled (n .degree) p found valueOf row (sampleOn n ks t) e in
       let r = support (axisOf n ks) Right _ (p .start) (z .0) (z .1) ok in
-      record { all = z .0; is = z .1; count = r .count; below = r .below }
+      record { all = z .0; is = z .1; below = r .below }
 
   pub values-below : p .start + n .degree < n .controls
   values-below = functions .below
@@ -72,31 +72,33 @@ module _ (s : Surface) (ok : refusalOfSurface s ≡ 0) (x y : Float) (p q : Plac
   pub patch-of : Patch (s .shape) (p .start) (q .start)
   patch-of = patch-below s ok (p .start) (q .start) (along-u .below) (along-v .below)
 
-  module _ (B : Bounded s) (net : List Float) (w : Weighed (s .shape) (s .weights) (scaleOf s) (p .start) (q .start) net) where
+  module _ (B : Bounded s) (net : List Float) (w : WeighedNet (s .shape) (s .weights) (scaleOf s) (p .start) (q .start) net) where
     abbrev by : List Float → List Float → Sum
-    by = sumBy s (p .start) (q .start) net
+    by = sumBy (s .shape) (s .controls) (p .start) (q .start) net
 
     abbrev whole : Sums
     whole = sums s (scaleOf s) (p .start) (q .start) (along-u .all) (along-v .all)
 
-    module _ (f g : Three → Float) (fs gs : List Float) (ef : shownPart (s .shape .u .degree) p fs ≡ partOf f (sampleU s x)) (eg : shownPart (s .shape .v .degree) q gs ≡ partOf g (sampleV s y)) where
-      by-rows : by fs gs ≡ overBy term (s .controls) (s .shape .v .controls) (map f (along-u .all)) (map g (along-v .all)) net (p .start * s .shape .v .controls + q .start) emptySum
-      by-rows = rw (row-is _ p pf f fs _ (along-u .is) (along-u .count) ef, row-is _ q qf g gs _ (along-v .is) (along-v .count) eg)
+    row-u : (f : Three → Float) → f (three nan nan nan) ≡ nan → (fs : List Float) → shownPart (s .shape .u .degree) p fs ≡ partOf f (sampleU s x) → (n : ℕ) → n < rowsOf (s .shape) → f (functionAt (along-u .all) n) ≡ numberAt fs n
+    row-u f e fs shows = row-is _ p pf f e fs _ (along-u .is) shows
 
-    value-is : by us vs ≡ whole .value
-    value-is = by-rows valueOf valueOf us vs eu ev ∙ value-alone s (scaleOf s) _ _ net w _ _ (along-u .count) (along-v .count)
+    row-v : (f : Three → Float) → f (three nan nan nan) ≡ nan → (fs : List Float) → shownPart (s .shape .v .degree) q fs ≡ partOf f (sampleV s y) → (n : ℕ) → n < columnsOf (s .shape) → f (functionAt (along-v .all) n) ≡ numberAt fs n
+    row-v f e fs shows = row-is _ q qf f e fs _ (along-v .is) shows
+
+    value-is : whole .value ≡ by us vs
+    value-is = value-alone s (scaleOf s) _ _ net w _ _ us vs (row-u valueOf refl us eu, row-v valueOf refl vs ev)
 
     module _ (heavy : le leastWeight (by us vs .w) ≡ true) where
       found : evaluateBy s (scaleOf s) x y ≡ Found (jetOfSums (whole .value) (whole .u) (whole .v))
-      found = bounded-found s ok B x y (along-u .is) (along-v .is) (rw value-is at heavy)
+      found = bounded-found s ok B x y (along-u .is) (along-v .is) (rw value-is heavy)
 
       -- whatever its derivatives are, the point is found
       pub point-found : (a b : Sum) × (evaluateBy s (scaleOf s) x y ≡ Found (jetOfSums (by us vs) a b))
-      point-found = (whole .u, whole .v, rw value-is found)
+      point-found = (whole .u, whole .v, rw value-is at found)
 
       pub jet-found : (fs gs : List Float) → shownPart (s .shape .u .degree) p fs ≡ partOf firstOf (sampleU s x) → shownPart (s .shape .v .degree) q gs ≡ partOf firstOf (sampleV s y)
           → evaluateBy s (scaleOf s) x y ≡ Found (jetOfSums (by us vs) (by fs vs) (by us gs))
       jet-found fs gs ef eg =
-          let a : by fs vs ≡ whole .u = by-rows firstOf valueOf fs vs ef ev ∙ u-alone s (scaleOf s) _ _ net w _ _ (along-u .count) (along-v .count) in
-          let b : by us gs ≡ whole .v = by-rows valueOf firstOf us gs eu eg ∙ v-alone s (scaleOf s) _ _ net w _ _ (along-u .count) (along-v .count) in
-          rw (value-is, a, b) found
+          let a : whole .u ≡ by fs vs = u-alone s (scaleOf s) _ _ net w _ _ fs vs (row-u firstOf refl fs ef, row-v valueOf refl vs ev) in
+          let b : whole .v ≡ by us gs = v-alone s (scaleOf s) _ _ net w _ _ us gs (row-u valueOf refl us eu, row-v firstOf refl gs eg) in
+          rw (value-is, a, b) at found

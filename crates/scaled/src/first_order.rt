@@ -1,4 +1,5 @@
 // An evaluation that leaves out what only tells whether the source would refuse: where the sizes of a surface's numbers rule an overflow out, the second derivatives.
+use crate::Accepted;
 use basis::Place;
 use basis::tabulate_firsts;
 use basis::tabulate_values;
@@ -6,11 +7,11 @@ use patch::Evaluated;
 use patch::jet_of_sums;
 use spline::KnotSide;
 use surface::Counts;
-use surface::Shape;
 use surface::sum_over;
 use surface::weigh;
 use surface::wrap_on;
 ghost use mathlib.Core.Path.{_≡_};
+ghost use mathlib.Core.Bool.{true};
 ghost use lib.ListN.{length, replicate};
 ghost use Rattle.float64.specs.Operators.{0·};
 ghost use Rattle.spline.specs.Knots.{refusalOfKnots};
@@ -18,9 +19,9 @@ ghost use Rattle.basis.specs.Parts.{valueOf, firstOf, partOf, shownPart};
 ghost use Rattle.basis.specs.Magnitude as Basis;
 ghost use Rattle.patch.specs.declared.Jet.{Jet};
 ghost use Rattle.patch.specs.declared.Evaluated.the-variants.{Found};
-ghost use Rattle.surface.specs.Surface.{surface, refusalOfSurface, scaleOf, evaluateBy};
-ghost use Rattle.surface.specs.Lent.{axisOf, sampleOn};
-ghost use Rattle.scaled.specs.Magnitude.{Bounded};
+ghost use Rattle.surface.specs.Surface.{evaluateBy};
+ghost use Rattle.surface.specs.Lent.{surfaceOf, atEntry, axisOf, sampleOn};
+ghost use Rattle.scaled.specs.Accepted.{Accepts};
 
 // 2^-62. Over a weight sum of at least that no quotient of a bounded surface overflows.
 pub const LEAST_WEIGHT: f64 = 2.168404344971009e-19;
@@ -67,18 +68,18 @@ fn sample_firsts(
 
 // What it finds is what an evaluation finds. It refuses too where the weight sum is too small for it.
 pub(crate) fn first_order(
-    shape: Shape,
+    accepted: Accepted,
     ku: &[f64],
     kv: &[f64],
     controls: &[f64],
     weights: &[f64],
-    scale: f64,
     u: f64,
     v: f64,
 ) -> Evaluated
-    requires { ⌜ (refusalOfSurface (surface shape (now ku) (now kv) (now controls) (now weights)) ≡ 0) × (scale ≡ scaleOf (surface shape (now ku) (now kv) (now controls) (now weights))) × Bounded (surface shape (now ku) (now kv) (now controls) (now weights)) ⌝ }
-    ensures { λ r. ⌜ ((j : Jet) → r ≡ Found j → r ≡ evaluateBy (surface shape (now (ku .entry)) (now (kv .entry)) (now (controls .entry)) (now (weights .entry))) scale u v) ⌝ }
+    requires { ⌜ Accepts (surfaceOf (accepted .shape) ku kv controls weights) accepted × (accepted .bounded ≡ true) ⌝ }
+    ensures { λ r. ⌜ ((j : Jet) → r ≡ Found j → r ≡ evaluateBy (atEntry (accepted .shape) ku kv controls weights) (accepted .largest) u v) ⌝ }
 {
+    let shape = accepted.shape;
     let mut values_u = [0.0f64; 18];
     let mut firsts_u = [0.0f64; 18];
     let mut values_v = [0.0f64; 18];
@@ -91,7 +92,7 @@ pub(crate) fn first_order(
     let row = from_u.start;
     let column = from_v.start;
     let mut net = [0.0f64; 289];
-    weigh(shape, weights, scale, row, column, &mut net);
+    weigh(shape, weights, accepted.largest, row, column, &mut net);
     let value = sum_over(shape, controls, &net, &values_u, row, &values_v, column);
     if !(LEAST_WEIGHT <= value.w) {
         return Evaluated::Refused;

@@ -1,43 +1,60 @@
-// The evaluation of a surface that passed its checks, with no test for an overflow where the sizes of its numbers rule one out.
+// A surface that passed its checks, and its evaluation, with no test for an overflow where the sizes of its numbers rule one out.
+mod accepting;
 mod first_order;
-mod sizes;
 
+pub use accepting::accept;
 pub use first_order::LEAST_WEIGHT;
 use first_order::first_order;
 pub use first_order::sample_values;
 use patch::Evaluated;
-pub use sizes::scaling_of;
+use surface::Domain;
 use surface::Shape;
 use surface::surface_jet;
 ghost use mathlib.Core.Path.{_≡_};
-ghost use Rattle.surface.specs.Surface.{surface, evaluateBy};
-ghost use Rattle.scaled.specs.Scaled.{Scaled};
+ghost use Rattle.surface.specs.Surface.{evaluateBy};
+ghost use Rattle.surface.specs.Lent.{surfaceOf, atEntry};
+ghost use Rattle.scaled.specs.Accepted.{Accepts};
 
-// How it is evaluated: by its largest weight, and with no test for an overflow where the sizes of its numbers rule one out.
-pub struct Scaling {
+// What the checks accepted: the surface's shape and domain, and how it is evaluated: by its largest weight, and with no test for an overflow where the sizes of its numbers rule one out.
+pub struct Accepted {
+    pub shape: Shape,
+    pub domain: Domain,
     pub largest: f64,
     pub bounded: bool,
 }
 
+pub enum Acceptance {
+    Accepted(Accepted),
+    Refusal(u64),
+}
+
 // What `surface_jet` answers.
 pub fn scaled_jet(
-    shape: Shape,
+    accepted: Accepted,
     ku: &[f64],
     kv: &[f64],
     controls: &[f64],
     weights: &[f64],
-    scale: Scaling,
     u: f64,
     v: f64,
 ) -> Evaluated
-    requires { ⌜ Scaled (surface shape (now ku) (now kv) (now controls) (now weights)) scale ⌝ }
-    ensures { λ r. ⌜ r ≡ evaluateBy (surface shape (now (ku .entry)) (now (kv .entry)) (now (controls .entry)) (now (weights .entry))) (scale .largest) u v ⌝ }
+    requires { ⌜ Accepts (surfaceOf (accepted .shape) ku kv controls weights) accepted ⌝ }
+    ensures { λ r. ⌜ r ≡ evaluateBy (atEntry (accepted .shape) ku kv controls weights) (accepted .largest) u v ⌝ }
 {
-    if scale.bounded {
-        let quick = first_order(shape, ku, kv, controls, weights, scale.largest, u, v);
+    if accepted.bounded {
+        let quick = first_order(accepted, ku, kv, controls, weights, u, v);
         if let Evaluated::Found(_) = quick {
             return quick;
         }
     }
-    surface_jet(shape, ku, kv, controls, weights, scale.largest, u, v)
+    surface_jet(
+        accepted.shape,
+        ku,
+        kv,
+        controls,
+        weights,
+        accepted.largest,
+        u,
+        v,
+    )
 }

@@ -8,8 +8,9 @@ use native.Mathlib.Omega.{arith}
 use lib.ListN.{length, getD, set, take, drop, length-append, drop-of-length-le}
 use lib.Seq.{drop-cons, take-suc-set, getD-take, length-take-le}
 use lib.Ieee.{Float, nan, div, ofBits, lt, eq}
-use Rattle.float64.specs.Operators.{_⊕_, _⊖_, _⊗_, _⊘_, 0·, 8·, ofNat}
+use Rattle.float64.specs.Operators.{_⊘_, 0·}
 use Rattle.spline.specs.Knots.{Axis, high, refusalOfKnots}
+use Rattle.surface.specs.Intervals.{eighthOf}
 use Rattle.seeds.specs.Axis.{filter, distinct, every, breaksOf, stride, thinned, eighths, between, valuesOf}
 use Rattle.seeds.specs.AxisLaws.{inDomain, breaksWithin, fresh, fresh-nan, Sorted, distinct-closed, kept, kept-most, kept-sorted}
 use Rattle.seeds.specs.AxisLaws.Sorted.{from}
@@ -131,7 +132,7 @@ module _ (at : List Float) (n : ℕ) (e : Float) (s : Sorted lt (take n at)) (p 
   closed-more t = sym (closed-by ∙ rw t)
 
 -- ---- the values
-eighths-more : (j : ℕ) (x y : Float) → j < 8 → eighths (8 - j) j x y ≡ (x ⊕ (y ⊖ x) ⊗ ofNat j ⊘ 8·) ∷ eighths (8 - (j + 1)) (j + 1) x y
+eighths-more : (j : ℕ) (x y : Float) → j < 8 → eighths (8 - j) j x y ≡ eighthOf x y j ∷ eighths (8 - (j + 1)) (j + 1) x y
 unfolding eighths
 eighths-more j x y h =
     let q : 8 - j ≡ suc (8 - (j + 1)) = omega arith in
@@ -141,10 +142,10 @@ pub eighths-begin : (at : List Float) (n : ℕ) (x y : Float) → take n at ++ e
 eighths-begin at n x y = let q : n + 0 ≡ n = omega arith in rw q
 
 module _ (w at : List Float) (n j : ℕ) (x y : Float) (e : w ≡ take (n + j) at ++ eighths (8 - j) j x y) where
-  pub eighths-turn : j < 8 → n + j < length at → w ≡ take (n + (j + 1)) (set at (n + j) (x ⊕ (y ⊖ x) ⊗ ofNat j ⊘ 8·)) ++ eighths (8 - (j + 1)) (j + 1) x y
+  pub eighths-turn : j < 8 → n + j < length at → w ≡ take (n + (j + 1)) (set at (n + j) (eighthOf x y j)) ++ eighths (8 - (j + 1)) (j + 1) x y
   eighths-turn h l =
       let q : n + (j + 1) ≡ n + j + 1 = omega arith in
-      e ∙ rw (q, pushed at (n + j) (x ⊕ (y ⊖ x) ⊗ ofNat j ⊘ 8·) l, eighths-more j x y h, append-assoc)
+      e ∙ rw (q, pushed at (n + j) (eighthOf x y j) l, eighths-more j x y h, append-assoc)
 
   pub eighths-over : j ≡ 8 → take (n + 8) at ≡ w
   unfolding eighths

@@ -1,3 +1,4 @@
 pub mod AxisSteps
 pub mod Places
 pub mod TableSteps
+pub mod WalkSteps

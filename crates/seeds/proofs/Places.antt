@@ -11,12 +11,17 @@ use lib.Dec.{T}
 use lib.Ieee.{Float, nan, binary64, fits, lt, le, eq}
 use Rattle.float64.specs.Operators.{0·}
 use Rattle.float64.specs.Functions.{root}
+use Rattle.float64.specs.Nonneg.{nonneg→number}
+use Rattle.vector3.specs.declared.Vector3.{Vector3}
+use Rattle.vector3.specs.Vector3.{distance}
+use Rattle.vector3.specs.Laws.{Finite, distance-number}
 use Rattle.seeds.specs.declared.Start.{Start}
 use Rattle.seeds.specs.declared.Starts.{Starts}
+use Rattle.seeds.specs.declared.Shortlist.{Shortlist}
 use Rattle.seeds.specs.Grid.{startAt}
-use Rattle.seeds.specs.StartLaws.{full-stays}
-use Rattle.seeds.specs.Insert.{held, Rising, Limits, placeIn, spliced, insertUnique, kept}
-use Rattle.seeds.specs.LimitLaws.{limit-at}
+use Rattle.seeds.specs.StartLaws.{full-stays, kept-rising}
+use Rattle.seeds.specs.Insert.{startsIn, Rising, Limits, Sound, placeIn, spliced, insertUnique, kept}
+use Rattle.seeds.specs.LimitLaws.{squareOf, distance-is-root, square-fits, square-not-below, limit-at}
 
 -- what a list answers past its end
 abbrev pub none : Start
@@ -114,33 +119,53 @@ insert-at x [] q = refl
 insert-at x (y ∷ ys) q = insert-cons x y ys (placeIn (x .distance) ys) (le (x .distance) (y .distance)) (insert-at x ys) q
 
 -- of s and x, whose place is i: one as far is met, or none
-module _ (s : Starts) (x : Start) (i : ℕ) (n : length (held s) ≡ s .count) (c : s .count ≤ 6) (e : i ≡ placeIn (x .distance) (held s)) where
-  pub met : i < s .count → eq (x .distance) (getD (s .at) i none .distance) ≡ true → held s ≡ kept x (held s)
+module _ (s : Starts) (x : Start) (i : ℕ) (n : length (startsIn s) ≡ s .count) (c : s .count ≤ 6) (e : i ≡ placeIn (x .distance) (startsIn s)) where
+  pub met : i < s .count → eq (x .distance) (getD (s .at) i none .distance) ≡ true → startsIn s ≡ kept x (startsIn s)
   unfolding kept
   met l q =
-      let y : getD (held s) i none ≡ getD (s .at) i none = getD-take (s .count) (s .at) i none l in
-      let u : held s ≡ insertUnique x (held s) = unique-at x (held s) (omega arith) (rw (← e, y) q) in
-      sym (sym (ap (take 6) u) ∙ take-all 6 (held s) (omega arith))
+      let y : getD (startsIn s) i none ≡ getD (s .at) i none = getD-take (s .count) (s .at) i none l in
+      let u : startsIn s ≡ insertUnique x (startsIn s) = unique-at x (startsIn s) (omega arith) (rw (← e, y) q) in
+      sym (sym (ap (take 6) u) ∙ take-all 6 (startsIn s) (omega arith))
 
-  pub new : (i < s .count → eq (x .distance) (getD (s .at) i none .distance) ≡ false) → take 6 (spliced i x (held s)) ≡ kept x (held s)
+  pub new : (i < s .count → eq (x .distance) (getD (s .at) i none .distance) ≡ false) → take 6 (spliced i x (startsIn s)) ≡ kept x (startsIn s)
   unfolding kept
   new q =
-      let u : spliced i x (held s) ≡ insertUnique x (held s) = rw e (insert-at x (held s) (λ l.
+      let u : spliced i x (startsIn s) ≡ insertUnique x (startsIn s) = rw e (insert-at x (startsIn s) (λ l.
       let k : i < s .count = omega arith in
       rw (← e, getD-take (s .count) (s .at) i none k) (q k))) in
       ap (take 6) u
 
 -- six are held, and a point with that squared distance is no nearer than the last
-pub no-nearer : (s : Starts) (square : Float) {d : Float} → d ≡ root square → length (held s) ≡ s .count → s .count ≡ 6 → Rising (held s) → lt square 0· ≡ false → T (fits binary64 square) → le (getD (s .at) 5 none .distance) d ≡ true
-    → (u v : Float) → (held s ≡ kept (startAt (root square) u v) (held s)) × Limits square (held s)
+pub no-nearer : (s : Starts) (square : Float) {d : Float} → d ≡ root square → length (startsIn s) ≡ s .count → s .count ≡ 6 → Rising (startsIn s) → lt square 0· ≡ false → T (fits binary64 square) → le (getD (s .at) 5 none .distance) d ≡ true
+    → (u v : Float) → (startsIn s ≡ kept (startAt (root square) u v) (startsIn s)) × Limits square (startsIn s)
 no-nearer s square e n c r b f h u v =
     let l : 5 < s .count = omega arith in
-    let last : le (getD (held s) 5 none .distance) (root square) ≡ true = rw (getD-take (s .count) (s .at) 5 none l, ← e) h in
-    (full-stays (startAt (root square) u v) none (held s) r (omega arith) last, limit-at none (held s) square r (omega arith) b f last)
+    let last : le (getD (startsIn s) 5 none .distance) (root square) ≡ true = rw (getD-take (s .count) (s .at) 5 none l, ← e) h in
+    (full-stays (startAt (root square) u v) none (startsIn s) r (omega arith) last, limit-at none (startsIn s) square r (omega arith) b f last)
+
+-- ---- the surface point p at x and y, whose squared distance is q, is taken in after those of n
+module _ (mark p : Vector3) {q : Float} (e : q ≡ squareOf mark p) {n : Shortlist} (h : Sound n × Finite mark × Finite p) (x y : Float) where
+  abbrev TakenIn : Shortlist → Type 0
+  TakenIn m = (startsIn (m .starts) ≡ kept (startAt (distance p mark) x y) (startsIn (n .starts))) × Sound m
+
+  same-start : kept (startAt (root q) x y) (startsIn (n .starts)) ≡ kept (startAt (distance p mark) x y) (startsIn (n .starts))
+  same-start = rw (e, distance-is-root mark p)
+
+  pub left-out : le (n .limit) q ≡ true → TakenIn n
+  left-out l = (h .0 .limits q x y (rw e (square-fits mark p)) l ∙ same-start, h .0)
+
+  pub keepable : (n .starts .count ≤ 6) × Rising (startsIn (n .starts)) × (lt q 0· ≡ false) × T (fits binary64 q)
+  keepable = (h .0 .six, h .0 .rising, rw e (square-not-below mark p (h .1) (h .2)), rw e (square-fits mark p))
+
+  pub put-in : {m : Shortlist} → (startsIn (m .starts) ≡ kept (startAt (root q) x y) (startsIn (n .starts))) × (m .starts .count ≤ 6) × Limits (m .limit) (startsIn (m .starts)) → TakenIn m
+  put-in k =
+      let t = k .0 ∙ same-start in
+      let number = nonneg→number (distance-number p mark (h .2) (h .1)) in
+      (t, record { six = k .1; rising = rw t (kept-rising (startAt (distance p mark) x y) number (h .0 .rising)); limits = k .2 })
 
 -- an array of structs, as long as what is known of it
 pub unmapped : (X Y : Type 0) (f : X → Y) (l : List X) (n : ℕ) → length (map f l) ≡ n → length l ≡ n
 unmapped X Y f l n p = sym (length-map l f) ∙ p
 
-pub held-count : (s : Starts) → s .count ≤ 6 → length (s .at) ≡ 6 → length (held s) ≡ s .count
-held-count s c n = length-take-le (s .count) (s .at) (omega arith)
+pub starts-count : (s : Starts) → s .count ≤ 6 → length (s .at) ≡ 6 → length (startsIn s) ≡ s .count
+starts-count s c n = length-take-le (s .count) (s .at) (omega arith)

@@ -3,7 +3,6 @@ use mathlib.Core.Path.{_≡_, refl, sym, ap, _∙_}
 use mathlib.Core.Bool.{Bool, true, false, not, _&&_, and-eq-true-iff, false≢true}
 use mathlib.Core.List.{List, []}
 use Prim.Native.Nat.{ℕ, suc, _+_, _-_, _≤_, _<_}
-use native.Mathlib.Numerals.{add-one}
 use native.Mathlib.Omega.{arith}
 use lib.Dec.{eqb}
 use borrow.Author.Tests.{eqb-true, eqb-false, ne-eqb, not-true}
@@ -23,19 +22,17 @@ use Rattle.patch.specs.declared.Evaluated.the-variants as Evaluated
 use Rattle.patch.specs.Patch.{jetOfSums}
 use Rattle.patch.specs.Patch as Patch
 use Rattle.surface.specs.declared.Counts.{Counts}
-use Rattle.scaled.specs.declared.Scaling.{Scaling}
-use Rattle.surface.specs.declared.Shape.{Shape}
-use Rattle.surface.specs.Surface.{Surface, evaluateBy}
+use Rattle.surface.specs.Surface.{Surface, surface, evaluateBy}
 use Rattle.surface.specs.Lent.{axisOf, sampleOn}
-use Rattle.surface.specs.Net.{Weighed, sumBy}
-use Rattle.surface.specs.Net as Net
+use Rattle.surface.specs.Net.{WeighedNet, sumBy}
+use Rattle.scaled.specs.declared.Accepted.{Accepted}
+use Rattle.scaled.specs.Accepted.{not-refused, largest-is}
 use Rattle.scaled.specs.Magnitude.{leastWeight}
 use Rattle.scaled.specs.PartLaws.{values-below, patch-of, point-found}
-use Rattle.scaled.specs.Scaled.{Scaled, scaled-accepted, scaled-largest}
-use Rattle.newton.specs.Run.{pointOf}
+use Rattle.seeds.specs.declared.Node.{Node}
 use Rattle.seeds.specs.declared.Located.{Located}
 use Rattle.seeds.specs.declared.Located.the-variants.{At, Refused}
-use Rattle.seeds.specs.Table.{located, Known, Tabled, Held}
+use Rattle.seeds.specs.Table.{located, Known, Tabled, NetFor, Starting, Prepared}
 
 -- ---- the functions of one value, by where they start
 
@@ -89,41 +86,37 @@ rest-blank table j row b = λ k l m. getD-set-other table j k row [] (λ q. absu
 
 -- both start, or not both
 module _ (row column : ℕ) where
-  pub both-start : (not (eqb row 0) && not (eqb column 0)) ≡ true → (row ≡ suc (row - 1)) × (column ≡ suc (column - 1))
+  pub both-start : (not (eqb row 0) && not (eqb column 0)) ≡ true → (0 < row) × (0 < column)
   both-start h =
       let z = and-eq-true-iff (not (eqb row 0)) (not (eqb column 0)) .0 h in
       let a : row ≡ 0 → ⊥ = eqb-false row 0 (not-true _ (z .0)) in
       let b : column ≡ 0 → ⊥ = eqb-false column 0 (not-true _ (z .1)) in
       (omega (arith, a), omega (arith, b))
 
-  pub not-both : (not (eqb row 0) && not (eqb column 0)) ≡ false → (i j : ℕ) → row ≡ suc i → column ≡ suc j → ⊥
+  not-both : (not (eqb row 0) && not (eqb column 0)) ≡ false → (i j : ℕ) → row ≡ suc i → column ≡ suc j → ⊥
   not-both h i j e f =
       let a = ne-eqb row 0 (λ q. omega arith) in
       let b = ne-eqb column 0 (λ q. omega arith) in
       false≢true (sym h ∙ simp (a, b))
 
-module _ {shape : Shape} {ws : List Float} {m : Float} where
-  pub newly-held : {row column : ℕ} {net : List Float} → Weighed shape ws m row column net → Held shape ws m (suc row) (suc column) net
-  newly-held {row} {column} {net} w = record { whole = w .whole; weighed = λ i j e f. by i j (omega arith) (omega arith) }
-    where
-      by : (i j : ℕ) → row ≡ i → column ≡ j → Weighed shape ws m i j net
-      by i j e f = rw (← e, ← f) w
+module _ {a : Accepted} {ws : List Float} {row : ℕ} {net : List Float} where
+  pub none-weighed : length net ≡ 289 → NetFor a ws row 0 net
+  none-weighed n = record { whole = n; weighed = λ i j e f. absurd (omega arith) }
 
-  pub same-held : {row column held : ℕ} {net : List Float} → held ≡ column + 1 → Held shape ws m (suc row) held net → Held shape ws m (suc row) (suc column) net
-  same-held {row} {column} e h = rw (e, add-one column) at h
+  module _ {column : ℕ} where
+    pub newly-weighed : 0 < row → 0 < column → WeighedNet (a .shape) ws (a .largest) (row - 1) (column - 1) net → NetFor a ws row column net
+    newly-weighed r c w = record { whole = w .whole; weighed = λ i j e f. by i j (omega arith) (omega arith) }
+      where
+        by : (i j : ℕ) → row - 1 ≡ i → column - 1 ≡ j → WeighedNet (a .shape) ws (a .largest) i j net
+        by i j e f = rw (← e, ← f) w
 
-  pub held-from : {row i column : ℕ} {net : List Float} → row ≡ suc i → Held shape ws m row column net → Held shape ws m (suc i) column net
-  held-from e h = rw e at h
+    module _ {weighed : ℕ} (h : NetFor a ws row weighed net) where
+      pub still-weighed : weighed ≡ column → NetFor a ws row column net
+      still-weighed e = rw e at h
 
-  pub held-to : {row i column j : ℕ} {net : List Float} → row ≡ suc i → column ≡ suc j → Held shape ws m (suc i) (suc j) net → Held shape ws m row column net
-  held-to e f h = rw (e, f) h
-
-  pub none-held : {row : ℕ} {net : List Float} → length net ≡ 289 → Held shape ws m row 0 net
-  none-held n = record { whole = n; weighed = λ i j e f. absurd (omega arith) }
-
-  -- one of the two does not start
-  pub nothing-held : {r c row column : ℕ} {net : List Float} → ((i j : ℕ) → row ≡ suc i → column ≡ suc j → ⊥) → Held shape ws m r c net → Held shape ws m row column net
-  nothing-held n h = record { whole = h .whole; weighed = λ i j e f. absurd (n i j e f) }
+      -- one of the two does not start
+      pub unweighed : (not (eqb row 0) && not (eqb column 0)) ≡ false → NetFor a ws row column net
+      unweighed t = record { whole = h .whole; weighed = λ i j e f. absurd (not-both row column t i j e f) }
 
 -- ---- the point of an evaluation
 
@@ -131,31 +124,48 @@ point-of : {e : Evaluated} (value a b : Sum) {p : Vector3} → e ≡ Evaluated.F
 unfolding located jetOfSums
 point-of value a b h q = rw (h, q)
 
--- where both start, at row i and column j
-module _ (s : Surface) (m : Scaling) (ok : Scaled s m) (x y : Float) (row column : ℕ) (us vs : List Float) (ku : Known (m .bounded) (s .shape .u) (s .knotsU) x row us) (kv : Known (m .bounded) (s .shape .v) (s .knotsV) y column vs)
-    {i j : ℕ} (e : row ≡ suc i) (f : column ≡ suc j) where
-  pub starting : Net.Patch (s .shape) i j
-  starting = patch-of s (scaled-accepted s m ok) x y (record { found = true; start = i }) (record { found = true; start = j }) us vs refl refl (ku i e .1) (kv j f .1)
+module _ {a : Accepted} {ku kv cs ws : List Float} {n : Node} {us vs net : List Float} (p : Prepared a (surface (a .shape) ku kv cs ws) n us vs net) where
+  abbrev of : Surface
+  of = surface (a .shape) ku kv cs ws
 
-  pub found-there : (net : List Float) → Weighed (s .shape) (s .weights) (m .largest) i j net → {value : Sum} → value ≡ sumBy s i j net us vs → le leastWeight (value .w) ≡ true → {p : Vector3} → p ≡ Patch.pointOf value
-      → At p ≡ located (evaluateBy s (m .largest) x y)
-  found-there net w {value} h heavy q =
-      let l = scaled-largest s m ok in
-      let z = point-found s (scaled-accepted s m ok) x y (record { found = true; start = i }) (record { found = true; start = j }) us vs refl refl (ku i e .1) (kv j f .1) (ok .bounded (ku i e .0)) net (rw l at w) (rw h at heavy) in
-      rw l (point-of value (z .0) (z .1) (rw h (z .2)) q)
+  abbrev from : ℕ → Place
+  from first = record { found = true; start = first - 1 }
+
+  -- both start
+  module _ (b : (0 < n .row) × (0 < n .column)) where
+    valuesU : (a .bounded ≡ true) × (shownPart (a .shape .u .degree) (from (n .row)) us ≡ partOf valueOf (sampleOn (a .shape .u) ku (n .u)))
+    valuesU = p .functionsU (n .row - 1) (omega arith)
+
+    valuesV : (a .bounded ≡ true) × (shownPart (a .shape .v .degree) (from (n .column)) vs ≡ partOf valueOf (sampleOn (a .shape .v) kv (n .v)))
+    valuesV = p .functionsV (n .column - 1) (omega arith)
+
+    pub starting : Starting a n
+    starting = record {
+      row = b .0;
+      column = b .1;
+      patch = patch-of of (not-refused (p .accepts)) (n .u) (n .v) (from (n .row)) (from (n .column)) us vs refl refl (valuesU .1) (valuesV .1);
+    }
+
+    pub found-there : {next : List Float} → NetFor a ws (n .row) (n .column) next → {value : Sum} → value ≡ sumBy (of .shape) (of .controls) (n .row - 1) (n .column - 1) next us vs → le leastWeight (value .w) ≡ true
+        → {q : Vector3} → q ≡ Patch.pointOf value → At q ≡ located (evaluateBy of (a .largest) (n .u) (n .v))
+    found-there {next} w {value} h heavy e =
+        let l = largest-is (p .accepts) in
+        let here = w .weighed (n .row - 1) (n .column - 1) (omega arith) (omega arith) in
+        let z = point-found of (not-refused (p .accepts)) (n .u) (n .v) (from (n .row)) (from (n .column)) us vs refl refl (valuesU .1) (valuesV .1) (p .accepts .bounded (valuesU .0)) next (rw l at here) (rw h at heavy) in
+        rw l (point-of value (z .0) (z .1) (rw h (z .2)) e)
 
 -- what a point says of its evaluation
-pub record Seen (e : Evaluated) (p : Vector3) : Type 0 where
+pub record Shows (e : Evaluated) (p : Vector3) : Type 0 where
   pub jet : Jet
   pub found : e ≡ Evaluated.Found jet
-  pub point : p ≡ pointOf jet
+  pub point : p ≡ jet .point
 
-pub seen : (e : Evaluated) {l : Located} {p : Vector3} → l ≡ located e → l ≡ At p → Seen e p
+pub shown : (e : Evaluated) {l : Located} {p : Vector3} → l ≡ located e → l ≡ At p → Shows e p
 unfolding located
-seen Evaluated.Refused h k = let z : _≡_ {A = ℕ} 0 1 = cc in absurd (omega arith)
-seen (Evaluated.Found j) h k = record { jet = j; found = refl; point = cc }
+shown Evaluated.Refused h k = let z : _≡_ {A = ℕ} 0 1 = cc in absurd (omega arith)
+shown (Evaluated.Found j) h k = record { jet = j; found = refl; point = cc }
 
-pub unseen : (e : Evaluated) {l : Located} → l ≡ located e → l ≡ Refused → e ≡ Evaluated.Refused
+pub not-shown : (e : Evaluated) {l : Located} → l ≡ located e → l ≡ Refused → e ≡ Evaluated.Refused
 unfolding located
-unseen Evaluated.Refused h k = refl
-unseen (Evaluated.Found j) h k = let z : _≡_ {A = ℕ} 0 1 = cc in absurd (omega arith)
+not-shown Evaluated.Refused h k = refl
+not-shown (Evaluated.Found j) h k = let z : _≡_ {A = ℕ} 0 1 = cc in absurd (omega arith)

@@ -4,8 +4,8 @@ use mathlib.Core.Bool.{Bool, cond, _&&_}
 use mathlib.Core.List.{List, [], _∷_, _++_}
 use lib.ListN.{length}
 use lib.Ieee.{Float, le, eq}
-use Rattle.float64.specs.Operators.{_⊕_, _⊖_, _⊗_, _⊘_, 8·, ofNat}
 use Rattle.spline.specs.Knots.{Axis, low, high}
+use Rattle.surface.specs.Intervals.{eighthOf}
 
 unfoldable pub filter : (Float → Bool) → List Float → List Float
 filter f [] = []
@@ -42,7 +42,7 @@ thinned a =
 -- k values from the j-th eighth between x and y on
 unfoldable pub eighths : ℕ → ℕ → Float → Float → List Float
 eighths zero j x y = []
-eighths (suc k) j x y = (x ⊕ (y ⊖ x) ⊗ ofNat j ⊘ 8·) ∷ eighths k (suc j) x y
+eighths (suc k) j x y = eighthOf x y j ∷ eighths k (suc j) x y
 
 unfoldable pub between : List Float → List Float
 between [] = []

@@ -1,41 +1,34 @@
 -- The grid, u-major, evaluated whole, and the starts: its points rising by distance, of equal distances only the first in the grid, six at most. Definitions only.
-use Prim.Native.Nat.{ℕ, suc}
 use mathlib.Core.Bool.{cond}
 use mathlib.Core.List.{List, [], _∷_}
 use lib.ListN.{take}
 use lib.Ieee.{Float, le, eq}
 use Rattle.vector3.specs.declared.Vector3.{Vector3}
+use Rattle.price.specs.Price.{Priced, refused, answered, after, mapped}
 use Rattle.patch.specs.declared.Evaluated.{Evaluated}
 use Rattle.patch.specs.declared.Evaluated.the-variants.{Found, Refused}
-use Rattle.newton.specs.Run.{fromMark}
+use Rattle.patch.specs.Patch.{fromMark}
 use Rattle.seeds.specs.declared.Start.{Start}
 
 abbrev pub startAt : Float → Float → Float → Start
 startAt d x y = record { distance = d; u = x; v = y }
 
--- ---- the walk: every point with its distance; or how many evaluations were made, the refused one included
-
-pub data Survey : Type 0 where
-  stopped : ℕ → Survey
-  surveyed : List Start → Survey
-
-unfoldable pub after : Survey → Start → Survey
-after (stopped n) p = stopped (suc n)
-after (surveyed ps) p = surveyed (p ∷ ps)
+-- ---- the walk: every point with its distance, one evaluation each
 
 module _ (mark : Vector3) (eval : Float → Float → Evaluated) where
-  unfoldable pub seen : Survey → Float → Float → Evaluated → Survey
-  seen rest x y Refused = stopped 1
-  seen rest x y (Found j) = after rest (startAt (fromMark mark j) x y)
+  -- the point at (x, y), by its evaluation, and then the rest
+  unfoldable pub seen : Priced (List Start) → Float → Float → Evaluated → Priced (List Start)
+  seen rest x y Refused = refused 1
+  seen rest x y (Found j) = after 1 (mapped (λ ps. startAt (fromMark mark j) x y ∷ ps) rest)
 
   -- the rest of the row of x, and then the rows below
-  unfoldable pub alongV : Float → List Float → Survey → Survey
-  alongV x [] below = below
-  alongV x (y ∷ ys) below = seen (alongV x ys below) x y (eval x y)
+  unfoldable pub rowOf : Float → List Float → Priced (List Start) → Priced (List Start)
+  rowOf x [] below = below
+  rowOf x (y ∷ ys) below = seen (rowOf x ys below) x y (eval x y)
 
-  unfoldable pub survey : List Float → List Float → Survey
-  survey [] vs = surveyed []
-  survey (x ∷ xs) vs = alongV x vs (survey xs vs)
+  unfoldable pub survey : List Float → List Float → Priced (List Start)
+  survey [] vs = answered [] 0
+  survey (x ∷ xs) vs = rowOf x vs (survey xs vs)
 
 -- ---- the starts
 

@@ -1,5 +1,5 @@
 -- The starts as they are kept while the grid is walked: each point put in at its place, unless one as far is there, and the seventh dropped. Definitions only.
-use Prim.Native.Nat.{ℕ, suc}
+use Prim.Native.Nat.{ℕ, suc, _≤_}
 use mathlib.Core.Path.{_≡_}
 use mathlib.Core.Bool.{true, false, cond}
 use lib.Dec.{T}
@@ -9,10 +9,11 @@ use lib.Ieee.{Float, binary64, fits, le, eq, isNan}
 use Rattle.float64.specs.Functions.{root}
 use Rattle.seeds.specs.declared.Start.{Start}
 use Rattle.seeds.specs.declared.Starts.{Starts}
+use Rattle.seeds.specs.declared.Shortlist.{Shortlist}
 use Rattle.seeds.specs.Grid.{startAt}
 
-abbrev pub held : Starts → List Start
-held s = take (s .count) (s .at)
+abbrev pub startsIn : Starts → List Start
+startsIn s = take (s .count) (s .at)
 
 -- each no further than the next
 pub data Rising : List Start → Type 0 where
@@ -45,3 +46,9 @@ spliced i p ss = take i ss ++ p ∷ drop i ss
 -- a point whose squared distance is not below the limit changes nothing of what is kept
 abbrev pub Limits : Float → List Start → Type 0
 Limits limit ss = (d x y : Float) → T (fits binary64 d) → le limit d ≡ true → ss ≡ kept (startAt (root d) x y) ss
+
+-- what holds of a shortlist between two points
+pub record Sound (n : Shortlist) : Type 0 where
+  pub six : n .starts .count ≤ 6
+  pub rising : Rising (startsIn (n .starts))
+  pub limits : Limits (n .limit) (startsIn (n .starts))

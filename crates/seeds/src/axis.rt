@@ -10,6 +10,7 @@ ghost use Rattle.seeds.specs.Axis.{distinct, every, stride, eighths, bet
 ghost use Rattle.seeds.specs.AxisLaws.{inDomain, breaksWithin, Sorted};
 use crate::Breaks;
 use crate::Values;
+use surface::eighth;
 
 // A knot of the domain that differs from the break before it.
 fn is_break(low: f64, high: f64, last: f64, t: f64) -> bool
@@ -103,7 +104,7 @@ fn put_eighths(at: &mut [f64; 193], n: usize, x: f64, y: f64)
     ensures { λ r. ⌜ (take (n + 8) (now (at .exit)) ≡ take n (now (at .entry)) ++ eighths 8 0 x y) × (length (now (at .exit)) ≡ 193) ⌝ }
 {
     for j in 0..8usize {
-        at[n + j] = x + (y - x) * j as f64 / 8.0;
+        at[n + j] = eighth(x, y, j);
     }
 }
 

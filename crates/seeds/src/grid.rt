@@ -1,120 +1,99 @@
 // The walk of the grid: every u value with every v value is evaluated, and the points nearest to the mark are kept.
 use crate::Located;
-use crate::Start;
-use crate::Starts;
+use crate::Node;
+use crate::Shortlist;
 use crate::Values;
 use crate::Walked;
-use crate::insertion::keep;
+use crate::insertion::no_starts;
+use crate::insertion::take_in;
+use crate::table::fill_table;
 use crate::table::first_of;
 use crate::table::point_at;
-use crate::table::tabulate;
-use scaled::Scaling;
-use surface::Shape;
+use scaled::Accepted;
 use vector3::Vector3;
-use vector3::dot;
-use vector3::sub;
 ghost use mathlib.Core.Path.{_≡_};
 ghost use Prim.Native.Nat.{_≤_};
 ghost use Rattle.vector3.specs.Laws.{Finite};
-ghost use Rattle.surface.specs.Surface.{surface, evaluateBy};
-ghost use Rattle.scaled.specs.Scaled.{Scaled};
-ghost use Rattle.seeds.specs.Grid.{survey};
-ghost use Rattle.seeds.specs.LimitLaws.{squareOf};
-ghost use Rattle.seeds.specs.Walk.{listed, outcomeOf, spend};
+ghost use Rattle.price.specs.Price.{mapped, spend};
+ghost use Rattle.surface.specs.Surface.{evaluateBy};
+ghost use Rattle.surface.specs.Lent.{surfaceOf, atEntry};
+ghost use Rattle.scaled.specs.Accepted.{Accepts};
+ghost use Rattle.seeds.specs.Grid.{survey, startsOf};
+ghost use Rattle.seeds.specs.Walk.{listed, walkedOf};
 
-fn no_starts() -> Starts
-    ensures { λ r. ⌜ r .count ≡ 0 ⌝ }
+fn walked(refusal: u64, taken: u64, shortlist: Shortlist) -> Walked
+    ensures { λ r. ⌜ r ≡ record { refusal = refusal; taken = taken; starts = shortlist .starts } ⌝ }
 {
-    let origin = Start {
-        distance: 0.0,
-        u: 0.0,
-        v: 0.0,
-    };
-    let at = [origin; 6];
-    Starts { at, count: 0 }
-}
-
-// The square of a point's distance.
-fn square_of(mark: Vector3, point: Vector3) -> f64
-    ensures { λ r. ⌜ r ≡ squareOf mark point ⌝ }
-{
-    let away = sub(point, mark);
-    dot(away, away)
-}
-
-// Each charge comes before its evaluation.
-pub fn walk(
-    shape: Shape,
-    ku: &[f64],
-    kv: &[f64],
-    controls: &[f64],
-    weights: &[f64],
-    scale: Scaling,
-    us: Values,
-    vs: Values,
-    mark: Vector3,
-    budget: u64,
-) -> Walked
-    requires { ⌜ Scaled (surface shape (now ku) (now kv) (now controls) (now weights)) scale × (us .count ≤ 193) × (vs .count ≤ 193) × Finite mark ⌝ }
-    ensures { λ r. ⌜ (outcomeOf r ≡ spend budget (listed us) (listed vs) (survey mark (evaluateBy (surface shape (now (ku .entry)) (now (kv .entry)) (now (controls .entry)) (now (weights .entry))) (scale .largest)) (listed us) (listed vs))) × (r .starts .count ≤ 6) ⌝ }
-{
-    let u_at = us.at;
-    let v_at = vs.at;
-    let rows = us.count;
-    let columns = vs.count;
-    let bounded = scale.bounded;
-    let mut table = [[0.0f64; 18]; 193];
-    let mut first = [0usize; 193];
-    tabulate(kv, shape.v, bounded, &v_at, columns, &mut table, &mut first);
-    let mut net = [0.0f64; 289];
-    let mut refusal: u64 = 0;
-    let mut taken: u64 = 0;
-    let mut starts = no_starts();
-    let mut limit = 0.0 / 0.0;
-    'grid: for i in 0..rows {
-        let u = u_at[i];
-        let mut values = [0.0f64; 18];
-        let row = first_of(ku, shape.u, bounded, u, &mut values);
-        let mut held: usize = 0;
-        for j in 0..columns {
-            if taken == budget {
-                refusal = 8;
-                break 'grid;
-            }
-            taken += 1;
-            let column = first[j];
-            let v = v_at[j];
-            let Located::At(point) = point_at(
-                shape,
-                ku,
-                kv,
-                controls,
-                weights,
-                scale,
-                u,
-                v,
-                &values,
-                row,
-                &table[j],
-                column,
-                held,
-                &mut net,
-            ) else {
-                refusal = 9;
-                break 'grid;
-            };
-            held = column;
-            let square = square_of(mark, point);
-            if !(limit <= square) {
-                let nearest = keep(starts, square, u, v);
-                starts = nearest.starts;
-                limit = nearest.limit;
-            }
-        }
-    }
+    let starts = shortlist.starts;
     Walked {
         refusal,
         taken,
         starts,
     }
+}
+
+// Each charge comes before its evaluation.
+pub fn walk(
+    accepted: Accepted,
+    ku: &[f64],
+    kv: &[f64],
+    controls: &[f64],
+    weights: &[f64],
+    us: Values,
+    vs: Values,
+    mark: Vector3,
+    budget: u64,
+) -> Walked
+    requires { ⌜ Accepts (surfaceOf (accepted .shape) ku kv controls weights) accepted × (us .count ≤ 193) × (vs .count ≤ 193) × Finite mark ⌝ }
+    ensures { λ r. ⌜ (walkedOf r ≡ spend budget (mapped startsOf (survey mark (evaluateBy (atEntry (accepted .shape) ku kv controls weights) (accepted .largest)) (listed us) (listed vs)))) × (r .starts .count ≤ 6) ⌝ }
+{
+    let shape = accepted.shape;
+    let bounded = accepted.bounded;
+    let u_at = us.at;
+    let v_at = vs.at;
+    let rows = us.count;
+    let columns = vs.count;
+    let mut table = [[0.0f64; 18]; 193];
+    let mut firsts = [0usize; 193];
+    fill_table(kv, shape.v, bounded, vs, &mut table, &mut firsts);
+    let mut net = [0.0f64; 289];
+    let mut taken: u64 = 0;
+    let mut shortlist = no_starts();
+    for i in 0..rows {
+        let u = u_at[i];
+        let mut values = [0.0f64; 18];
+        let row = first_of(ku, shape.u, bounded, u, &mut values);
+        let mut weighed: usize = 0;
+        for j in 0..columns {
+            if taken == budget {
+                return walked(8, taken, shortlist);
+            }
+            taken += 1;
+            let v = v_at[j];
+            let column = firsts[j];
+            let node = Node {
+                u,
+                v,
+                row,
+                column,
+                weighed,
+            };
+            let Located::At(point) = point_at(
+                accepted,
+                ku,
+                kv,
+                controls,
+                weights,
+                node,
+                &values,
+                &table[j],
+                &mut net,
+            ) else {
+                return walked(9, taken, shortlist);
+            };
+            weighed = column;
+            shortlist = take_in(shortlist, mark, point, u, v);
+        }
+    }
+    walked(0, taken, shortlist)
 }

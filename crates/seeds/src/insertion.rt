@@ -1,18 +1,43 @@
 // The starts as the grid is walked: six structs by value, sorted by insertion; equal distances are not taken in.
-use crate::Nearest;
+use crate::Shortlist;
 use crate::Start;
 use crate::Starts;
 use float64::root;
+use vector3::Vector3;
+use vector3::dot;
+use vector3::sub;
 ghost use mathlib.Core.Path.{_≡_};
 ghost use mathlib.Core.Bool.{false};
+ghost use mathlib.Core.List.{[]};
 ghost use lib.Dec.{T};
 ghost use Prim.Native.Nat.{_≤_};
 ghost use lib.ListN.{take};
 ghost use lib.Ieee.{binary64, fits, lt};
 ghost use Rattle.float64.specs.Operators.{0·};
 ghost use Rattle.float64.specs.Functions.{root};
+ghost use Rattle.vector3.specs.Vector3.{distance};
+ghost use Rattle.vector3.specs.Laws.{Finite};
 ghost use Rattle.seeds.specs.Grid.{startAt};
-ghost use Rattle.seeds.specs.Insert.{held, Rising, Limits, kept, placeIn, spliced};
+ghost use Rattle.seeds.specs.Insert.{startsIn, Rising, Limits, Sound, kept, placeIn, spliced};
+ghost use Rattle.seeds.specs.LimitLaws.{squareOf};
+
+pub(crate) fn no_starts() -> Shortlist
+    ensures { λ r. ⌜ (startsIn (r .starts) ≡ []) × Sound r ⌝ }
+{
+    let origin = Start {
+        distance: 0.0,
+        u: 0.0,
+        v: 0.0,
+    };
+    let starts = Starts {
+        at: [origin; 6],
+        count: 0,
+    };
+    Shortlist {
+        starts,
+        limit: 0.0 / 0.0,
+    }
+}
 
 // The first index whose distance is not below d.
 fn place(at: [Start; 6], count: usize, d: f64) -> usize
@@ -31,7 +56,7 @@ fn place(at: [Start; 6], count: usize, d: f64) -> usize
 // x put in at i; the last falls out where there are six.
 fn splice(at: [Start; 6], count: usize, i: usize, x: Start) -> Starts
     requires { ⌜ (count ≤ 6) × (i ≤ count) ⌝ }
-    ensures { λ r. ⌜ (held r ≡ take 6 (spliced i x (take count at))) × (r .count ≤ 6) ⌝ }
+    ensures { λ r. ⌜ (startsIn r ≡ take 6 (spliced i x (take count at))) × (r .count ≤ 6) ⌝ }
 {
     let mut out = at;
     let mut carry = x;
@@ -53,7 +78,7 @@ fn splice(at: [Start; 6], count: usize, i: usize, x: Start) -> Starts
 // x at its place, unless one as far is there.
 fn enter(s: Starts, x: Start) -> Starts
     requires { ⌜ s .count ≤ 6 ⌝ }
-    ensures { λ r. ⌜ (held r ≡ kept x (held s)) × (r .count ≤ 6) ⌝ }
+    ensures { λ r. ⌜ (startsIn r ≡ kept x (startsIn s)) × (r .count ≤ 6) ⌝ }
 {
     let at = s.at;
     let count = s.count;
@@ -68,23 +93,49 @@ fn enter(s: Starts, x: Start) -> Starts
 }
 
 // The point at u and v put in, by the square of its distance. One that is no nearer than the last of six changes nothing, and no more do those from there on.
-pub(crate) fn keep(s: Starts, square: f64, u: f64, v: f64) -> Nearest
-    requires { ⌜ (s .count ≤ 6) × Rising (held s) × (lt square 0· ≡ false) × T (fits binary64 square) ⌝ }
-    ensures { λ r. ⌜ (held (r .starts) ≡ kept (startAt (root square) u v) (held s)) × (r .starts .count ≤ 6) × Limits (r .limit) (held (r .starts)) ⌝ }
+fn keep(s: Starts, square: f64, u: f64, v: f64) -> Shortlist
+    requires { ⌜ (s .count ≤ 6) × Rising (startsIn s) × (lt square 0· ≡ false) × T (fits binary64 square) ⌝ }
+    ensures { λ r. ⌜ (startsIn (r .starts) ≡ kept (startAt (root square) u v) (startsIn s)) × (r .starts .count ≤ 6) × Limits (r .limit) (startsIn (r .starts)) ⌝ }
 {
     let distance = root(square);
     if s.count == 6 {
         let last = s.at[5];
         if last.distance <= distance {
-            return Nearest {
+            return Shortlist {
                 starts: s,
                 limit: square,
             };
         }
     }
     let starts = enter(s, Start { distance, u, v });
-    Nearest {
+    Shortlist {
         starts,
         limit: 0.0 / 0.0,
     }
+}
+
+// The square of a point's distance.
+fn square_of(mark: Vector3, point: Vector3) -> f64
+    ensures { λ r. ⌜ r ≡ squareOf mark point ⌝ }
+{
+    let away = sub(point, mark);
+    dot(away, away)
+}
+
+// The surface point at u and v put in; where its square is not below the limit its root is not taken.
+pub(crate) fn take_in(
+    shortlist: Shortlist,
+    mark: Vector3,
+    point: Vector3,
+    u: f64,
+    v: f64,
+) -> Shortlist
+    requires { ⌜ Sound shortlist × Finite mark × Finite point ⌝ }
+    ensures { λ r. ⌜ (startsIn (r .starts) ≡ kept (startAt (distance point mark) u v) (startsIn (shortlist .starts))) × Sound r ⌝ }
+{
+    let square = square_of(mark, point);
+    if shortlist.limit <= square {
+        return shortlist;
+    }
+    keep(shortlist.starts, square, u, v)
 }

@@ -33,9 +33,18 @@ pub struct Starts {
 }
 
 // What is kept of the points seen so far. Points whose squared distance is not below the limit change nothing of it; a NaN is no limit.
-pub struct Nearest {
+pub struct Shortlist {
     pub starts: Starts,
     pub limit: f64,
+}
+
+// A grid point before its evaluation. `row` and `column` are one more than where the functions of u and of v start, 0 where that is not known; `weighed` is the column whose patch's weights the net holds, in the same row, 0 where it holds none.
+pub struct Node {
+    pub u: f64,
+    pub v: f64,
+    pub row: usize,
+    pub column: usize,
+    pub weighed: usize,
 }
 
 // The point of an evaluation.

@@ -10,12 +10,12 @@ use lib.Seq.{drop-cons}
 use lib.Ieee.{Float, nan, inf, lt, eq, isNan}
 use borrow.Author.Tests.{not-false}
 use Rattle.float64.specs.Operators.{_⊘_, 0·}
-use Rattle.float64.specs.Functions.{isFinite, max}
-use Rattle.float64.specs.Order.{lt-trans, lt-irrefl, lt-not-le, le-not-lt, le-trans}
+use Rattle.float64.specs.Functions.{isFinite, larger, lesser, max}
+use Rattle.float64.specs.Order.{max-larger, lt-trans, lt-irrefl, lt-not-le, le-not-lt, le-trans}
 use Rattle.float64.specs.Nonneg.{Nonneg, infinite, zero-nonneg, nonneg→number}
 use Rattle.spline.specs.declared.weights.Weighed.the-variants.{Scale, Refused}
 use Rattle.spline.specs.Weights.{sound, largest, vanishing, isEmpty, weighed}
-use Rattle.spline.specs.ExtremeLaws.{allAbove, lesser, greater, smallest, Told, above-nonneg, sound-by-most, vanishing-by-least}
+use Rattle.spline.specs.ExtremeLaws.{allAbove, smallest, Told, above-nonneg, sound-by-most, vanishing-by-least}
 
 -- ---- one of two numbers, by a strict order of them, the first of equals: which pair is compared first makes no difference
 
@@ -34,22 +34,18 @@ not-lt-trans a b c A B C p q =
     rw (lt-not-le a c A C, le-trans c b a (le-not-lt c b C B ∙ ap not q) (le-not-lt b a B A ∙ ap not p))
 
 module _ {m x y : Float} (M : Nonneg m) (X : Nonneg x) (Y : Nonneg y) where
-  greater-assoc : greater (greater m x) y ≡ greater m (greater x y)
-  greater-assoc = chosen-assoc lt m x y (lt-trans m x y) (not-lt-trans m x y (nonneg→number M) (nonneg→number X) (nonneg→number Y))
+  larger-assoc : larger (larger m x) y ≡ larger m (larger x y)
+  larger-assoc = chosen-assoc lt m x y (lt-trans m x y) (not-lt-trans m x y (nonneg→number M) (nonneg→number X) (nonneg→number Y))
 
   lesser-assoc : lesser (lesser m x) y ≡ lesser m (lesser x y)
   lesser-assoc = chosen-assoc (λ p q. lt q p) m x y (λ p q. lt-trans y x m q p) (λ p q. not-lt-trans y x m (nonneg→number Y) (nonneg→number X) (nonneg→number M) q p)
-
-max-is : {m : Float} → Nonneg m → (w : Float) → max m w ≡ greater m w
-unfolding max
-max-is M w = rw (nonneg→number M)
 
 either : (t : Bool) {x y : Float} → Nonneg x → Nonneg y → Nonneg (cond t x y)
 either true p q = p
 either false p q = q
 
-greater-nonneg : {m w : Float} → Nonneg m → Nonneg w → Nonneg (greater m w)
-greater-nonneg {m} {w} p q = either (lt m w) q p
+larger-nonneg : {m w : Float} → Nonneg m → Nonneg w → Nonneg (larger m w)
+larger-nonneg {m} {w} p q = either (lt m w) q p
 
 lesser-nonneg : {m w : Float} → Nonneg m → Nonneg w → Nonneg (lesser m w)
 lesser-nonneg {m} {w} p q = either (lt w m) q p
@@ -78,7 +74,7 @@ module _ (above : Bool) (x y : Float) (h : (above && (lt 0· x && lt 0· y)) ≡
   second = above-nonneg y (and-eq-true-iff (lt 0· x) (lt 0· y) .0 (and-eq-true-iff above _ .0 h .1) .1)
 
 pub go : {ws rest : List Float} {x y : Float} {above : Bool} {least most : Float} → Passed ws (x ∷ y ∷ rest) above least most
-    → Passed ws rest (above && (lt 0· x && lt 0· y)) (lesser least (lesser x y)) (greater most (greater x y))
+    → Passed ws rest (above && (lt 0· x && lt 0· y)) (lesser least (lesser x y)) (larger most (larger x y))
 unfolding allAbove smallest largest
 go {ws} {rest} {x} {y} {above} {least} {most} p = record {
   is-above = p .is-above ∙ simp and-assoc;
@@ -86,9 +82,9 @@ go {ws} {rest} {x} {y} {above} {least} {most} p = record {
   is-most = λ h.
       let M = p .most-number (before above x y h) in
       let X = first above x y h in
-      p .is-most (before above x y h) ∙ ap (λ (z : Float). largest (max z y) rest) (max-is M x) ∙ ap (λ (z : Float). largest z rest) (max-is (greater-nonneg M X) y ∙ greater-assoc M X (second above x y h));
+      p .is-most (before above x y h) ∙ ap (λ (z : Float). largest (max z y) rest) (max-larger _ x (nonneg→number M)) ∙ ap (λ (z : Float). largest z rest) (max-larger _ y (nonneg→number (larger-nonneg M X)) ∙ larger-assoc M X (second above x y h));
   least-number = λ h. lesser-nonneg (p .least-number (before above x y h)) (lesser-nonneg (first above x y h) (second above x y h));
-  most-number = λ h. greater-nonneg (p .most-number (before above x y h)) (greater-nonneg (first above x y h) (second above x y h));
+  most-number = λ h. larger-nonneg (p .most-number (before above x y h)) (larger-nonneg (first above x y h) (second above x y h));
 }
 
 pub over : {ws : List Float} {above : Bool} {least most : Float} → Passed ws [] above least most → Told ws above least most
@@ -97,12 +93,12 @@ over {ws} {above} p = record { is-above = sym (p .is-above ∙ and-true above); 
 
 -- the last of an odd number, as a pair with itself
 pub over-odd : {ws : List Float} {x : Float} {above : Bool} {least most : Float} → Passed ws (x ∷ []) above least most
-    → Told ws (above && (lt 0· x && lt 0· x)) (lesser least (lesser x x)) (greater most (greater x x))
+    → Told ws (above && (lt 0· x && lt 0· x)) (lesser least (lesser x x)) (larger most (larger x x))
 unfolding allAbove smallest largest
 over-odd {ws} {x} {above} {least} {most} p = record {
   is-above = sym (p .is-above ∙ simp (and-true, and-self));
   is-least = λ h. simp (lt-irrefl x) (sym (p .is-least (before above x x h)));
-  is-most = λ h. simp (lt-irrefl x) (sym (p .is-most (before above x x h) ∙ max-is (p .most-number (before above x x h)) x));
+  is-most = λ h. simp (lt-irrefl x) (sym (p .is-most (before above x x h) ∙ max-larger _ x (nonneg→number (p .most-number (before above x x h)))));
 }
 
 drop-two : (ws : List Float) (j k : ℕ) → j + 1 < length ws → k ≡ suc (suc j) → drop j ws ≡ getD ws j nan ∷ getD ws (j + 1) nan ∷ drop k ws
@@ -113,7 +109,7 @@ drop-last ws j h = drop-cons ws j nan (omega arith) ∙ ap (λ (l : List Float).
 
 -- what `with_pair` answers
 abbrev pub Taken : Bool → Float → Float → Float → Float → Bool → Float → Float → Type 0
-Taken above least most x y a l m = (a ≡ (above && (lt 0· x && lt 0· y))) × (l ≡ lesser least (lesser x y)) × (m ≡ greater most (greater x y))
+Taken above least most x y a l m = (a ≡ (above && (lt 0· x && lt 0· y))) × (l ≡ lesser least (lesser x y)) × (m ≡ larger most (larger x y))
 
 -- the pass by pairs: before turn i the weights from 2 * i on are left
 module _ (ws : List Float) (i : ℕ) (above : Bool) (least most : Float) (p : Passed ws (drop (2 * i) ws) above least most) where

@@ -7,7 +7,7 @@ use native.Mathlib.Omega.{arith}
 use lib.ListN.{length}
 use lib.Ieee.{Float, nan, inf, fin, lt, le, eq, isNan, ofBits}
 use Rattle.float64.specs.Operators.{_⊘_, 0·}
-use Rattle.float64.specs.Functions.{isFinite, max}
+use Rattle.float64.specs.Functions.{isFinite, lesser, max}
 use Rattle.float64.specs.Order.{le-not-lt, lt→le, eq→le, le-trans, le-antisym, lt-le-trans}
 use Rattle.float64.specs.Nonneg.{Nonneg, infinite, finite, zero-nonneg, nonneg-le}
 use Rattle.float64.specs.Magnitude.{Positive, positive, is-positive, quotient-nonneg, quotient-mono}
@@ -18,13 +18,6 @@ use Rattle.spline.specs.Each.{first-and-rest}
 unfoldable pub allAbove : List Float → Bool
 allAbove [] = true
 allAbove (w ∷ ws) = lt 0· w && allAbove ws
-
--- of equal ones the first
-abbrev pub lesser : Float → Float → Float
-lesser m w = cond (lt w m) w m
-
-abbrev pub greater : Float → Float → Float
-greater m w = cond (lt m w) w m
 
 -- the smallest of m and the weights
 unfoldable pub smallest : Float → List Float → Float

@@ -9,7 +9,7 @@ use lib.Ieee.{Float, nan, lt, le, eq, ofBits}
 use borrow.Author.Tests.{not-true, not-false}
 use Rattle.float64.specs.Operators.{_⊘_, 0·}
 use Rattle.float64.specs.Functions.{isFinite, max}
-use Rattle.float64.specs.Order.{finite→number, lt-not-le, le-not-lt, lt→le, le-refl, le-trans, lt-le-trans}
+use Rattle.float64.specs.Order.{neither, finite→number, max-larger, lt-not-le, le-not-lt, lt→le, le-refl, le-trans, lt-le-trans}
 use Rattle.spline.specs.declared.weights.Weighed.the-variants.{Scale, Refused}
 use Rattle.spline.specs.Weights.{sound, largest, vanishing, isEmpty, weighed}
 use Rattle.spline.specs.Each.{Each, both, first-and-rest, each-at}
@@ -25,14 +25,14 @@ sound-each = record { none = refl; more = λ w ws. refl }
 abbrev keptOne : Float → Float → List Float → Bool
 keptOne m w ws = not (eq (w ⊘ m) 0·)
 
-neither : (p q : Bool) → not (p || q) ≡ (not p && not q)
-neither true q = refl
-neither false q = refl
+not-either : (p q : Bool) → not (p || q) ≡ (not p && not q)
+not-either true q = refl
+not-either false q = refl
 
 -- none vanishes
 kept-each : (m : Float) → Each (keptOne m) (λ ws. not (vanishing m ws))
 unfolding vanishing
-kept-each m = record { none = refl; more = λ w ws. neither (eq (w ⊘ m) 0·) (vanishing m ws) }
+kept-each m = record { none = refl; more = λ w ws. not-either (eq (w ⊘ m) 0·) (vanishing m ws) }
 
 -- ---- the largest
 pub zero-finite : isFinite 0· ≡ true
@@ -44,12 +44,8 @@ above-zero w h = lt-not-le 0· w (finite→number 0· zero-finite) (finite→num
 
 -- of finite numbers: it is finite, and at least each of the two
 module _ (m w : Float) (f : isFinite m ≡ true) (g : isFinite w ≡ true) where
-  max-is : max m w ≡ cond (lt m w) w m
-  unfolding max
-  max-is = rw (finite→number m f)
-
   pub max-bounds : (isFinite (max m w) ≡ true) × (le m (max m w) ≡ true) × (le w (max m w) ≡ true)
-  max-bounds = rw max-is (by (lt m w) refl)
+  max-bounds = rw (max-larger m w (finite→number m f)) (by (lt m w) refl)
     where
       by : (t : Bool) → lt m w ≡ t → (isFinite (cond t w m) ≡ true) × (le m (cond t w m) ≡ true) × (le w (cond t w m) ≡ true)
       by true h = (g, lt→le m w h, le-refl w (finite→number w g))
@@ -93,10 +89,6 @@ pub scale-of : (t : Bool) (n m : Float) → cond t Refused (Scale n) ≡ Scale m
 scale-of true n m e = absurd (let z : _≡_ {A = ℕ} 0 1 = cc in omega arith)
 scale-of false n m e = (refl, cc)
 
-neither-of : (p q : Bool) → (p || q) ≡ false → (p ≡ false) × (q ≡ false)
-neither-of true q h = absurd (true≢false h)
-neither-of false q h = (refl, h)
-
 some-of : (ws : List Float) → isEmpty ws ≡ false → 0 < length ws
 unfolding isEmpty
 some-of [] h = absurd (true≢false h)
@@ -106,8 +98,8 @@ pub accepted-weights : (ws : List Float) (m : Float) → weighed ws ≡ Scale m 
 unfolding weighed
 accepted-weights ws m h =
     let t = scale-of _ _ _ h in
-    let u = neither-of _ _ (t .0) in
-    let v = neither-of _ _ (u .0) in
+    let u = neither _ _ (t .0) in
+    let v = neither _ _ (u .0) in
     from m (sym (t .1)) (some-of ws (v .0)) (not-false (sound ws) (v .1)) (u .1)
   where
     from : (n : Float) → n ≡ largest 0· ws → 0 < length ws → sound ws ≡ true → vanishing (largest 0· ws) ws ≡ false → AcceptedWeights ws n

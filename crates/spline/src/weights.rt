@@ -1,11 +1,14 @@
 // The homogeneous scales of the controls.
 use float64::is_finite;
+use float64::larger;
+use float64::lesser;
 ghost use mathlib.Core.Path.{_≡_};
 ghost use mathlib.Core.Bool.{_&&_};
 ghost use lib.Ieee.{lt};
 ghost use Rattle.float64.specs.Operators.{0·};
+ghost use Rattle.float64.specs.Functions.{larger, lesser};
 ghost use Rattle.spline.specs.Weights.{weighed};
-ghost use Rattle.spline.specs.ExtremeLaws.{lesser, greater, Told};
+ghost use Rattle.spline.specs.ExtremeLaws.{Told};
 
 pub enum Weighed {
     // The largest, by which the others are to be divided.
@@ -20,32 +23,14 @@ struct Extremes {
     most: f64,
 }
 
-fn lesser(m: f64, w: f64) -> f64
-    ensures { λ r. ⌜ r ≡ lesser m w ⌝ }
-{
-    if w < m {
-        return w;
-    }
-    m
-}
-
-fn greater(m: f64, w: f64) -> f64
-    ensures { λ r. ⌜ r ≡ greater m w ⌝ }
-{
-    if m < w {
-        return w;
-    }
-    m
-}
-
 // Two weights more. They are held against each other first, so that what was found before is waited for once and not twice.
 fn with_pair(e: Extremes, x: f64, y: f64) -> Extremes
-    ensures { λ r. ⌜ (r .above ≡ (e .above && (lt 0· x && lt 0· y))) × (r .least ≡ lesser (e .least) (lesser x y)) × (r .most ≡ greater (e .most) (greater x y)) ⌝ }
+    ensures { λ r. ⌜ (r .above ≡ (e .above && (lt 0· x && lt 0· y))) × (r .least ≡ lesser (e .least) (lesser x y)) × (r .most ≡ larger (e .most) (larger x y)) ⌝ }
 {
     Extremes {
         above: e.above & ((0.0 < x) & (0.0 < y)),
         least: lesser(e.least, lesser(x, y)),
-        most: greater(e.most, greater(x, y)),
+        most: larger(e.most, larger(x, y)),
     }
 }
 

@@ -10,10 +10,10 @@ use Rattle.surface.specs.declared.Evaluation.the-variants.{Refusal}
 use Rattle.surface.specs.Surface.{Surface, checked, evaluateBy, orNine, evaluatedBy, evaluated}
 
 module _ (s : Surface) (x y : Float) {c : Checked} (e : c ≡ checked s) where
-  pub refused : {n : ℕ} → c ≡ Check.Refusal n → Refusal n ≡ evaluated s x y
+  pub told-refusal : {n : ℕ} → c ≡ Check.Refusal n → Refusal n ≡ evaluated s x y
   unfolding evaluated evaluatedBy
-  refused h = simp (← e, h)
+  told-refusal h = simp (← e, h)
 
-  pub scaled : {m : Float} → c ≡ Check.Scale m → {j : Evaluated} → j ≡ evaluateBy s m x y → {r : Evaluation} → r ≡ orNine j → r ≡ evaluated s x y
+  pub told-scale : {m : Float} → c ≡ Check.Scale m → {j : Evaluated} → j ≡ evaluateBy s m x y → {r : Evaluation} → r ≡ orNine j → r ≡ evaluated s x y
   unfolding evaluated evaluatedBy
-  scaled h ej er = er ∙ simp (← e, h, ej)
+  told-scale h ej er = er ∙ simp (← e, h, ej)

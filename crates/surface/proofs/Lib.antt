@@ -1,4 +1,3 @@
 pub mod CheckSteps
 pub mod SumSteps
-pub mod NetSteps
 pub mod EvaluateSteps

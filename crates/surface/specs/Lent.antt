@@ -1,14 +1,21 @@
--- What the functions of an evaluation are lent: an axis, and of a patch its controls, weights and bases. Definitions only.
-use mathlib.Core.Bool.{false}
-use mathlib.Core.List.{List, []}
-use Prim.Native.Nat.{ℕ, _+_, _*_, _≤_}
-use lib.ListN.{replicate}
-use lib.Ieee.{Float, nan}
+-- What a call is lent: a surface, or an axis of one. Definitions only.
+use mathlib.Core.List.{List}
+use lib.Ieee.{Float}
+use denote.Ref.{RefT, now}
+use denote.Triple.Both.{Both}
 use Rattle.spline.specs.declared.parameter.KnotSide.the-variants.{Right}
 use Rattle.spline.specs.Knots.{Axis, axis, low, high}
-use Rattle.basis.specs.Basis.{Three, three, Sample, basisAt}
+use Rattle.basis.specs.Basis.{Sample, basisAt}
 use Rattle.surface.specs.declared.Counts.{Counts}
+use Rattle.surface.specs.declared.Shape.{Shape}
 use Rattle.surface.specs.Surface.{Surface, surface, wrapped}
+
+-- the surface that a call is lent: in a `requires`, and in an `ensures`, as it was at entry
+abbrev pub surfaceOf : Shape → (ku kv controls weights : RefT (List Float)) → Surface
+surfaceOf shape ku kv cs ws = surface shape (now ku) (now kv) (now cs) (now ws)
+
+abbrev pub atEntry : {A B C D : Type 0} → Shape → Both (RefT (List Float)) A → Both (RefT (List Float)) B → Both (RefT (List Float)) C → Both (RefT (List Float)) D → Surface
+atEntry shape ku kv cs ws = surfaceOf shape (ku .entry) (kv .entry) (cs .entry) (ws .entry)
 
 abbrev pub axisOf : Counts → List Float → Axis
 axisOf n ks = axis (n .degree) (n .controls) ks
@@ -16,21 +23,3 @@ axisOf n ks = axis (n .degree) (n .controls) ks
 -- `sampleU` and `sampleV` are this of their own axis
 abbrev pub sampleOn : Counts → List Float → Float → Sample
 sampleOn n ks t = let a = axisOf n ks in basisAt a Right (wrapped (n .periodic) (low a) (high a) t)
-
-abbrev bare : ℕ → Counts
-bare n = record { degree = 0; controls = n; periodic = false }
-
--- a surface of which these controls and weights are lent, n in a row, and nothing else
-abbrev pub lent : List Float → List Float → ℕ → Surface
-lent cs ws n = surface (record { u = bare 0; v = bare n }) [] [] cs ws
-
--- n functions of which only the count is read
-abbrev pub counted : ℕ → List Three
-counted n = replicate n (three nan nan nan)
-
--- the rows from number i on and the columns from number j on lie in a net of that size, n in a row
-pub record Within (i rows j columns n size : ℕ) : Type 0 where
-  pub few-rows : i + rows ≤ 100000
-  pub few : size ≤ 100000
-  pub down : (i + rows) * n ≤ size
-  pub across : j + columns ≤ n

@@ -1,10 +1,12 @@
+pub mod Sums
 pub mod Surface
 pub mod Compute
 pub mod Flags
 pub mod SurfaceLaws
 pub mod Lent
+pub mod Intervals
 pub mod Net
-pub mod NetLaws
+pub mod SumLaws
 pub mod PatchLaws
 pub mod EvaluateLaws
 pub mod Examples

@@ -1,35 +1,39 @@
 -- An evaluation by the functions that stand in rows: where they are found they start a patch. Assumes nothing.
-use mathlib.Core.Path.{_≡_, refl, ap, _∙_}
+use mathlib.Core.Path.{_≡_, refl, sym, ap, _∙_}
 use mathlib.Core.Bool.{Bool, true, false, _&&_, and-eq-true-iff}
-use mathlib.Core.List.{List, _∷_}
+use mathlib.Core.List.{List}
 use Prim.Native.Nat.{ℕ, zero, suc, _+_, _*_, _<_}
-use native.Mathlib.Nat.{mul-le-mul-right}
-use native.Mathlib.Numerals.{add-one}
+use native.Mathlib.Nat.{zero-add, add-zero, add-suc, suc-add}
 use native.Mathlib.Omega.{arith}
 use lib.ListN.{length}
 use lib.Ieee.{Float}
 use Rattle.spline.specs.declared.parameter.KnotSide.the-variants.{Right}
 use Rattle.spline.specs.KnotLaws.{accepted}
 use Rattle.basis.specs.declared.Place.{Place}
-use Rattle.basis.specs.Basis.{Three, three, refused, sample, threes, shown}
-use Rattle.basis.specs.Rows.{Rows, entry, basisOf}
+use Rattle.basis.specs.Basis.{refused, sample, threes, shown}
+use Rattle.basis.specs.Rows.{Rows, basisOf}
 use Rattle.basis.specs.BasisLaws.{start-below}
+use Rattle.patch.specs.declared.Sums.{Sums}
 use Rattle.patch.specs.declared.Evaluated.{Evaluated}
 use Rattle.patch.specs.declared.Evaluated.the-variants.{Refused}
-use Rattle.surface.specs.Surface.{Surface, axisU, axisV, blended, sampleU, sampleV, refusalOfSurface, evaluateBy}
+use Rattle.patch.specs.Patch.{rational}
+use Rattle.surface.specs.Surface.{Surface, functionAt, axisU, axisV, blended, sampleU, sampleV, refusalOfSurface, evaluateBy}
 use Rattle.surface.specs.SurfaceLaws.{accepted-surface}
-use Rattle.surface.specs.Net.{functions, sampleFrom, Patch}
+use Rattle.surface.specs.Net.{Patch, WeighedNet, threeAt, sumsBy}
+use Rattle.surface.specs.SumLaws.{all-six}
 
-threes-functions : (p : Place) (rows : Rows) (k j : ℕ) → threes (basisOf p rows) k j ≡ threes (functions rows) k j
+-- function number n of those that stand in rows
+threes-at : (p : Place) (rows : Rows) (k j n : ℕ) → n < k → functionAt (threes (basisOf p rows) k j) n ≡ threeAt rows (j + n)
 unfolding threes
-threes-functions p rows zero j = refl
-threes-functions p rows (suc k) j = ap (λ (ts : List Three). three (entry rows 0 j) (entry rows 1 j) (entry rows 2 j) ∷ ts) (threes-functions p rows k (suc j))
+threes-at p rows zero j n h = absurd (omega arith)
+threes-at p rows (suc k) j zero h = rw add-zero
+threes-at p rows (suc k) j (suc n) h = threes-at p rows k (suc j) n (omega arith) ∙ rw (add-suc j n, suc-add j n)
 
-pub shown-found : (degree : ℕ) (p : Place) (rows : Rows) → p .found ≡ true → shown degree (basisOf p rows) ≡ sampleFrom degree (p .start) rows
+found-place : (degree : ℕ) (p : Place) (rows : Rows) → p .found ≡ true → shown degree (basisOf p rows) ≡ sample (p .start) (threes (basisOf p rows) (suc degree) 0)
 unfolding shown
-shown-found degree p rows f = simp (f, add-one) (ap (sample (p .start)) (threes-functions (record { found = true; start = p .start }) rows (suc degree) 0))
+found-place degree p rows f = simp f
 
-pub refused-place : (degree : ℕ) (p : Place) (rows : Rows) → p .found ≡ false → shown degree (basisOf p rows) ≡ refused
+refused-place : (degree : ℕ) (p : Place) (rows : Rows) → p .found ≡ false → shown degree (basisOf p rows) ≡ refused
 unfolding shown
 refused-place degree p rows f = simp f
 
@@ -46,16 +50,7 @@ module _ (s : Surface) (h : refusalOfSurface s ≡ 0) where
       let a = accepted-surface s h in
       let au = accepted (axisU s) (a .knots-u) in
       let av = accepted (axisV s) (a .knots-v) in
-      record {
-        inside = record {
-          few-rows = omega (arith, au .controls-most);
-          few = omega arith;
-          down = mul-le-mul-right {m = i + (s .shape .u .degree + 1)} {n = s .shape .u .controls} (s .shape .v .controls) (omega arith);
-          across = omega arith;
-        };
-        rows-most = au .degree-most;
-        columns-most = av .degree-most;
-      }
+      record { rows-most = au .degree-most; columns-most = av .degree-most; down = k; across = l; few-rows = au .controls-most; few = a .total-most }
 
   module _ (x y : Float) (p q : Place) (us vs : Rows) (e : shown (s .shape .u .degree) (basisOf p us) ≡ sampleU s x) (f : shown (s .shape .v .degree) (basisOf q vs) ≡ sampleV s y) where
     -- both are found, or they are not
@@ -68,9 +63,13 @@ module _ (s : Surface) (h : refusalOfSurface s ≡ 0) where
           let a = accepted-surface s h in
           patch-below (p .start) (q .start) (start-below (axisU s) Right _ (basisOf p us) (a .knots-u) e (found .0)) (start-below (axisV s) Right _ (basisOf q vs) (a .knots-v) f (found .1))
 
-      pub both : (m : Float) (r : Evaluated) → r ≡ blended s m (sampleFrom (s .shape .u .degree) (p .start) us) (sampleFrom (s .shape .v .degree) (q .start) vs) → r ≡ evaluateBy s m x y
-      unfolding evaluateBy
-      both m r er = er ∙ rw (← shown-found (s .shape .u .degree) p us (found .0), ← shown-found (s .shape .v .degree) q vs (found .1), e, f)
+      pub both : (m : Float) (net : List Float) → WeighedNet (s .shape) (s .weights) m (p .start) (q .start) net → {t : Sums} → t ≡ sumsBy (s .shape) (s .controls) (p .start) (q .start) net us vs → {r : Evaluated} → r ≡ rational t → r ≡ evaluateBy s m x y
+      unfolding evaluateBy blended
+      both m net w et er =
+          let du = s .shape .u .degree in
+          let dv = s .shape .v .degree in
+          let rows = all-six s m (p .start) (q .start) net w (threes (basisOf p us) (suc du) 0) (threes (basisOf q vs) (suc dv) 0) us vs (λ n l. threes-at p us (suc du) 0 n (omega arith) ∙ rw zero-add) (λ n l. threes-at q vs (suc dv) 0 n (omega arith) ∙ rw zero-add) in
+          er ∙ rw (← e, ← f, found-place du p us (found .0), found-place dv q vs (found .1)) (ap rational (et ∙ sym rows))
 
     pub not-both : (m : Float) → (p .found && q .found) ≡ false → Refused ≡ evaluateBy s m x y
     unfolding evaluateBy blended
@@ -78,4 +77,4 @@ module _ (s : Surface) (h : refusalOfSurface s ≡ 0) where
       where
         by : (b : Bool) → p .found ≡ b → (b && q .found) ≡ false → Refused ≡ blended s m (sampleU s x) (sampleV s y)
         by false c n = rw (← e, refused-place (s .shape .u .degree) p us c) refl
-        by true c n = rw (← e, ← f, shown-found (s .shape .u .degree) p us c, refused-place (s .shape .v .degree) q vs n) refl
+        by true c n = rw (← e, ← f, found-place (s .shape .u .degree) p us c, refused-place (s .shape .v .degree) q vs n) refl

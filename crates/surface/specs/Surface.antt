@@ -1,27 +1,27 @@
 -- A NURBS surface: when it is accepted, and its evaluation. Definitions only.
 use mathlib.Core.Bool.{Bool, not, cond, _&&_, _||_}
-use mathlib.Core.List.{List, [], _∷_}
+use mathlib.Core.List.{List}
 use Prim.Native.Nat.{ℕ, zero, suc, _+_, _*_}
 use lib.Dec.{ltb, eqb}
 use lib.ListN.{length, getD}
 use lib.Ieee.{Float, nan, le}
-use Rattle.float64.specs.Operators.{_⊕_, _⊖_, _⊘_, 0·}
-use Rattle.float64.specs.Functions.{isFinite, max, clamp, remEuclid}
-use Rattle.vector3.specs.declared.Vector3.{Vector3}
+use Rattle.float64.specs.Operators.{_⊕_, _⊖_, 0·}
+use Rattle.float64.specs.Functions.{isFinite, clamp, remEuclid}
 use Rattle.spline.specs.declared.parameter.KnotSide.the-variants.{Right}
 use Rattle.spline.specs.Weights.{largest, weighed}
 use Rattle.spline.specs.Weights as Weights
 use Rattle.spline.specs.Knots.{Axis, axis, low, high, allFinite, refusalOfKnots}
-use Rattle.basis.specs.Basis.{Three, Sample, refused, sample, basisAt}
+use Rattle.basis.specs.Basis.{Three, three, Sample, refused, sample, basisAt}
 use Rattle.patch.specs.declared.Sums.{Sums}
 use Rattle.patch.specs.declared.Evaluated.{Evaluated}
-use Rattle.patch.specs.declared.Evaluated.the-variants as Patch
-use Rattle.patch.specs.Patch.{with, emptySums, rational}
+use Rattle.patch.specs.declared.Evaluated.the-variants as Evaluated
+use Rattle.patch.specs.Patch.{addControl, emptySums, rational}
 use Rattle.surface.specs.declared.Shape.{Shape}
 use Rattle.surface.specs.declared.Checked.{Checked}
 use Rattle.surface.specs.declared.Checked.the-variants as Check
 use Rattle.surface.specs.declared.Evaluation.{Evaluation}
 use Rattle.surface.specs.declared.Evaluation.the-variants.{Found, Refusal}
+use Rattle.surface.specs.Sums.{heaviest, weightBy, sumOver}
 
 pub record Surface : Type 0 where
   pub shape : Shape
@@ -87,39 +87,21 @@ wrapped periodic lo hi t =
     cond (not periodic || not (isFinite t) || (le lo t && le t hi)) t
     (clamp (lo ⊕ remEuclid (t ⊖ lo) (hi ⊖ lo)) lo hi)
 
--- ---- the sums over a patch, from control number i on, of which v's functions are bs and u's are cs. m is the largest of all weights.
+-- ---- the evaluation of an accepted surface whose largest weight is m
 
-module _ (s : Surface) (m : Float) where
-  abbrev pub weightAt : ℕ → Float
-  weightAt i = getD (s .weights) i nan ⊘ m
+abbrev pub functionAt : List Three → ℕ → Three
+functionAt ts n = getD ts n (three nan nan nan)
 
-  abbrev pub pointAt : ℕ → Vector3
-  pointAt i = record { x = getD (s .controls) (3 * i) nan; y = getD (s .controls) (3 * i + 1) nan; z = getD (s .controls) (3 * i + 2) nan }
+-- the sums by functions us and vs, which start at row i and column j
+unfoldable pub sums : Surface → Float → ℕ → ℕ → List Three → List Three → Sums
+sums s m i j us vs =
+    let most = heaviest (s .shape) i j (s .weights) m in
+    sumOver (s .shape) i j addControl (s .controls) (functionAt us) (functionAt vs) (weightBy (s .shape) i j (s .weights) m most) emptySums
 
-  -- the largest weight of the patch
-  unfoldable pub heaviestAlong : List Three → ℕ → Float → Float
-  heaviestAlong [] i w = w
-  heaviestAlong (b ∷ bs) i w = heaviestAlong bs (suc i) (max w (weightAt i))
-
-  unfoldable pub heaviest : List Three → List Three → ℕ → Float → Float
-  heaviest [] bs i w = w
-  heaviest (a ∷ cs) bs i w = heaviest cs bs (i + s .shape .v .controls) (heaviestAlong bs i w)
-
-  -- a weight is divided by the largest of all, then by k, the largest of its patch: two roundings
-  unfoldable pub along : Float → Three → List Three → ℕ → Sums → Sums
-  along k a [] i t = t
-  along k a (b ∷ bs) i t = along k a bs (suc i) (with a b (weightAt i ⊘ k) (pointAt i) t)
-
-  unfoldable pub over : Float → List Three → List Three → ℕ → Sums → Sums
-  over k [] bs i t = t
-  over k (a ∷ cs) bs i t = over k cs bs (i + s .shape .v .controls) (along k a bs i t)
-
-  unfoldable pub blended : Sample → Sample → Evaluated
-  blended refused y = Patch.Refused
-  blended (sample i cs) refused = Patch.Refused
-  blended (sample i cs) (sample j bs) =
-      let at = i * s .shape .v .controls + j in
-      rational (over (heaviest cs bs at 0·) cs bs at emptySums)
+unfoldable pub blended : Surface → Float → Sample → Sample → Evaluated
+blended s m refused y = Evaluated.Refused
+blended s m (sample i us) refused = Evaluated.Refused
+blended s m (sample i us) (sample j vs) = rational (sums s m i j us vs)
 
 abbrev pub sampleU : Surface → Float → Sample
 sampleU s x = let a = axisU s in basisAt a Right (wrapped (s .shape .u .periodic) (low a) (high a) x)
@@ -127,15 +109,14 @@ sampleU s x = let a = axisU s in basisAt a Right (wrapped (s .shape .u .periodic
 abbrev pub sampleV : Surface → Float → Sample
 sampleV s y = let a = axisV s in basisAt a Right (wrapped (s .shape .v .periodic) (low a) (high a) y)
 
--- of an accepted surface whose largest weight is m
 unfoldable pub evaluateBy : Surface → Float → Float → Float → Evaluated
 evaluateBy s m x y = blended s m (sampleU s x) (sampleV s y)
 
 -- ---- the call that tests its own input
 
 unfoldable pub orNine : Evaluated → Evaluation
-orNine Patch.Refused = Refusal 9
-orNine (Patch.Found j) = Found j
+orNine Evaluated.Refused = Refusal 9
+orNine (Evaluated.Found j) = Found j
 
 unfoldable pub evaluatedBy : Surface → Checked → Float → Float → Evaluation
 evaluatedBy s (Check.Refusal n) x y = Refusal n

@@ -1,6 +1,6 @@
 -- What holds of a surface that is accepted, and of a parameter brought into the domain. Assumes nothing.
 use mathlib.Core.Path.{_≡_, refl, sym, ap, _∙_}
-use mathlib.Core.Bool.{Bool, true, false, not, cond, _&&_, _||_, or-true, and-eq-true-iff, true≢false}
+use mathlib.Core.Bool.{Bool, true, false, not, cond, _&&_, _||_, or-true, and-eq-true-iff}
 use Prim.Native.Nat.{ℕ, zero, suc, _*_, _≤_, _<_}
 use native.Mathlib.Omega.{arith}
 use lib.Dec.{eqb}
@@ -9,7 +9,7 @@ use lib.Ieee.{Float, nan, lt, le, isNan}
 use borrow.Author.Tests.{ltb-false, eqb-true, not-false}
 use Rattle.float64.specs.Operators.{_⊕_, _⊖_}
 use Rattle.float64.specs.Functions.{isFinite, clamp, remEuclid}
-use Rattle.float64.specs.Order.{le-refl, le→number, le-not-lt, lt→le}
+use Rattle.float64.specs.Order.{neither, le-refl, le→number, le-not-lt, lt→le}
 use Rattle.spline.specs.declared.weights.Weighed.{Weighed}
 use Rattle.spline.specs.declared.weights.Weighed.the-variants as Weighed
 use Rattle.spline.specs.Weights.{sound, vanishing, isEmpty, weighed, refusalOf}
@@ -34,10 +34,6 @@ not-when : (t : Bool) (n : ℕ) → when t (suc n) ≡ 0 → t ≡ false
 not-when true n h = absurd (omega arith)
 not-when false n h = refl
 
-neither : (p q : Bool) → (p || q) ≡ false → (p ≡ false) × (q ≡ false)
-neither true q h = absurd (true≢false h)
-neither false q h = (refl, h)
-
 total-most : (s : Surface) → tooLarge s ≡ false → total s ≤ 100000
 unfolding tooLarge
 total-most s h = ltb-false 100000 (total s) (neither _ _ h .0)
@@ -54,9 +50,9 @@ scale-is s m e =
     let ws = s .weights in
     sym (scale-of (isEmpty ws || not (sound ws) || vanishing (scaleOf s) ws) _ _ e .1)
 
-scaled : (s : Surface) → refusalOf (weighed (s .weights)) ≡ 0 → weighed (s .weights) ≡ Weighed.Scale (scaleOf s)
+scale-known : (s : Surface) → refusalOf (weighed (s .weights)) ≡ 0 → weighed (s .weights) ≡ Weighed.Scale (scaleOf s)
 unfolding refusalOf
-scaled s h = by (weighed (s .weights)) refl h
+scale-known s h = by (weighed (s .weights)) refl h
   where
     by : (w : Weighed) → weighed (s .weights) ≡ w → refusalOf w ≡ 0 → weighed (s .weights) ≡ Weighed.Scale (scaleOf s)
     by (Weighed.Scale m) e h = e ∙ ap Weighed.Scale (scale-is s m e)
@@ -86,7 +82,7 @@ accepted-surface s h =
       controls = counts .0;
       weights = counts .1;
       finite = λ i l. each-at finite-each (s .controls) i (not-false _ (not-when _ _ (t3 .0))) l;
-      scale = scaled s (t4 .0);
+      scale = scale-known s (t4 .0);
       knots-u = t5 .0;
       knots-v = t5 .1;
     }

@@ -8,7 +8,8 @@ use spline::validate_weights;
 ghost use mathlib.Core.Path.{_≡_};
 ghost use Prim.Native.Nat.{_*_, min};
 ghost use Rattle.spline.specs.Knots.{allFinite};
-ghost use Rattle.surface.specs.Surface.{surface, checked};
+ghost use Rattle.surface.specs.Surface.{checked};
+ghost use Rattle.surface.specs.Lent.{atEntry};
 
 // The source's default limits.
 const MAX_CONTROLS: usize = 100_000;
@@ -40,7 +41,7 @@ fn all_finite(controls: &[f64]) -> bool
 
 // The checks of `NurbsSurface::new`, and that the controls are finite, three coordinates each.
 pub fn check(shape: Shape, ku: &[f64], kv: &[f64], controls: &[f64], weights: &[f64]) -> Checked
-    ensures { λ r. ⌜ r ≡ checked (surface shape (now (ku .entry)) (now (kv .entry)) (now (controls .entry)) (now (weights .entry))) ⌝ }
+    ensures { λ r. ⌜ r ≡ checked (atEntry shape ku kv controls weights) ⌝ }
 {
     let u = shape.u;
     let v = shape.v;

@@ -4,19 +4,20 @@ use crate::Counts;
 use crate::Evaluation;
 use crate::Shape;
 use crate::checks::check;
-use crate::periodic::wrap_on;
-use crate::sums::blend;
+use crate::intervals::wrap_on;
+use crate::sums::sums_over;
 use crate::sums::weigh;
 use basis::Place;
 use basis::tabulate;
 use patch::Evaluated;
+use patch::rational;
 use spline::KnotSide;
 ghost use mathlib.Core.Path.{_≡_};
 ghost use Rattle.spline.specs.Knots.{refusalOfKnots};
 ghost use Rattle.basis.specs.Basis.{shown};
 ghost use Rattle.basis.specs.Rows.{blank, basisOf};
-ghost use Rattle.surface.specs.Surface.{surface, refusalOfSurface, evaluateBy, orNine, evaluated};
-ghost use Rattle.surface.specs.Lent.{axisOf, sampleOn};
+ghost use Rattle.surface.specs.Surface.{refusalOfSurface, evaluateBy, orNine, evaluated};
+ghost use Rattle.surface.specs.Lent.{surfaceOf, atEntry, axisOf, sampleOn};
 
 // The functions of one axis at t, put into empty rows.
 fn sample(knots: &[f64], counts: Counts, t: f64, rows: &mut [[f64; 18]; 3]) -> Place
@@ -45,8 +46,8 @@ pub fn surface_jet(
     u: f64,
     v: f64,
 ) -> Evaluated
-    requires { ⌜ refusalOfSurface (surface shape (now ku) (now kv) (now controls) (now weights)) ≡ 0 ⌝ }
-    ensures { λ r. ⌜ r ≡ evaluateBy (surface shape (now (ku .entry)) (now (kv .entry)) (now (controls .entry)) (now (weights .entry))) scale u v ⌝ }
+    requires { ⌜ refusalOfSurface (surfaceOf shape ku kv controls weights) ≡ 0 ⌝ }
+    ensures { λ r. ⌜ r ≡ evaluateBy (atEntry shape ku kv controls weights) scale u v ⌝ }
 {
     let mut functions_u = [[0.0f64; 18]; 3];
     let mut functions_v = [[0.0f64; 18]; 3];
@@ -58,7 +59,7 @@ pub fn surface_jet(
     }
     let mut net = [0.0f64; 289];
     weigh(shape, weights, scale, from_u.start, from_v.start, &mut net);
-    blend(
+    rational(sums_over(
         shape,
         controls,
         &net,
@@ -66,7 +67,7 @@ pub fn surface_jet(
         from_u.start,
         &functions_v,
         from_v.start,
-    )
+    ))
 }
 
 fn or_nine(e: Evaluated) -> Evaluation
@@ -88,7 +89,7 @@ pub fn evaluate(
     u: f64,
     v: f64,
 ) -> Evaluation
-    ensures { λ r. ⌜ r ≡ evaluated (surface shape (now (ku .entry)) (now (kv .entry)) (now (controls .entry)) (now (weights .entry))) u v ⌝ }
+    ensures { λ r. ⌜ r ≡ evaluated (atEntry shape ku kv controls weights) u v ⌝ }
 {
     let checked = check(shape, ku, kv, controls, weights);
     match checked {

@@ -2,26 +2,23 @@
 use crate::Shape;
 use float64::larger;
 use patch::Derivatives;
-use patch::Evaluated;
 use patch::Sum;
 use patch::Sums;
+use patch::add_control;
 use patch::empty_sum;
 use patch::empty_sums;
 use patch::more;
-use patch::rational;
-use patch::with;
 use vector3::Vector3;
 ghost use mathlib.Core.Path.{_≡_};
 ghost use mathlib.Core.Bool.{false};
-ghost use mathlib.Core.List.{List, [], _++_};
 ghost use Prim.Native.Nat.{_+_, _*_, _≤_, _<_};
-ghost use lib.ListN.{length, take, drop};
-ghost use lib.Ieee.{Float, isNan};
-ghost use Rattle.float64.specs.Operators.{0·};
-ghost use Rattle.patch.specs.Patch.{with, threeOf, emptySum, emptySums};
-ghost use Rattle.surface.specs.Surface.{surface, pointAt, heaviestAlong, heaviest, blended};
-ghost use Rattle.surface.specs.Lent.{lent, counted, Within};
-ghost use Rattle.surface.specs.Net.{scaledAlong, scaledOver, divided, alongBy, overBy, term, sequence, threeAt, numberAt, sampleFrom, Patch, Weighed};
+ghost use lib.ListN.{length, getD};
+ghost use lib.Ieee.{isNan, nan};
+ghost use Rattle.float64.specs.Operators.{_⊘_};
+ghost use Rattle.float64.specs.Functions.{max};
+ghost use Rattle.patch.specs.Patch.{addControl, threeOf};
+ghost use Rattle.surface.specs.Sums.{turns, rowsOf, columnsOf, controlAt, shareAt, shareIn, heaviest};
+ghost use Rattle.surface.specs.Net.{Patch, Holds, WeighedNet, Put, threeAt, numberAt, term, sumsBy, sumBy};
 
 // The weights of `count` controls from `at` on, each divided by `scale`, put into the net from `from` on. The largest of them and w.
 fn scale_along(
@@ -34,7 +31,8 @@ fn scale_along(
     from: usize,
 ) -> f64
     requires { ⌜ (at + count ≤ length (now weights)) × (from + count ≤ 289) × (length (now net) ≡ 289) × (isNan w ≡ false) ⌝ }
-    ensures { λ r. ⌜ (r ≡ heaviestAlong (lent [] (now (weights .entry)) 0) scale (counted count) at w) × (take (from + count) (now (net .exit)) ≡ take from (now (net .entry)) ++ scaledAlong (now (weights .entry)) scale count at) × (length (now (net .exit)) ≡ 289) × (isNan r ≡ false) ⌝ }
+    ensures { λ r. ⌜ (r ≡ turns (λ j w. max w (shareAt (now (weights .entry)) scale (at + j))) count w) × (isNan r ≡ false) ⌝ }
+    ensures { λ _. ⌜ Put (λ j. shareAt (now (weights .entry)) scale (at + j)) from count (now (net .entry)) (now (net .exit)) ⌝ }
 {
     let mut most = w;
     for j in 0..count {
@@ -47,20 +45,22 @@ fn scale_along(
 
 // The same of a patch, a row after the other.
 fn scale_over(
+    shape: Shape,
     weights: &[f64],
     scale: f64,
-    stride: usize,
     row: usize,
-    rows: usize,
     column: usize,
-    columns: usize,
     net: &mut [f64; 289],
 ) -> f64
-    requires { ⌜ Within row rows column columns stride (length (now weights)) × (rows ≤ 17) × (columns ≤ 17) × (length (now net) ≡ 289) ⌝ }
-    ensures { λ r. ⌜ (r ≡ heaviest (lent [] (now (weights .entry)) stride) scale (counted rows) (counted columns) (row * stride + column) 0·) × (take (rows * columns) (now (net .exit)) ≡ scaledOver (now (weights .entry)) scale stride rows columns (row * stride + column)) × (length (now (net .exit)) ≡ 289) ⌝ }
+    requires { ⌜ (length (now weights) ≡ shape .u .controls * shape .v .controls) × Patch shape row column × (length (now net) ≡ 289) ⌝ }
+    ensures { λ r. ⌜ (r ≡ heaviest shape row column (now (weights .entry)) scale) × Holds (rowsOf shape) (columnsOf shape) (shareIn shape row column (now (weights .entry)) scale) (now (net .exit)) ⌝ }
 {
+    let along_u = shape.u;
+    let along_v = shape.v;
+    let columns = along_v.degree + 1;
+    let stride = along_v.controls;
     let mut most = 0.0;
-    for i in 0..rows {
+    for i in 0..along_u.degree + 1 {
         let at = (row + i) * stride + column;
         most = scale_along(weights, scale, at, columns, most, net, i * columns);
     }
@@ -70,7 +70,7 @@ fn scale_over(
 // The first `count` numbers of the net divided by `most`.
 fn divide(net: &mut [f64; 289], count: usize, most: f64)
     requires { ⌜ (count ≤ 289) × (length (now net) ≡ 289) ⌝ }
-    ensures { λ _. ⌜ (take count (now (net .exit)) ≡ divided most (take count (now (net .entry)))) × (length (now (net .exit)) ≡ 289) ⌝ }
+    ensures { λ _. ⌜ Put (λ q. getD (now (net .entry)) q nan ⊘ most) 0 count (now (net .entry)) (now (net .exit)) ⌝ }
 {
     for i in 0..count {
         net[i] = net[i] / most;
@@ -87,19 +87,17 @@ pub fn weigh(
     net: &mut [f64; 289],
 )
     requires { ⌜ (length (now weights) ≡ shape .u .controls * shape .v .controls) × Patch shape row column × (length (now net) ≡ 289) ⌝ }
-    ensures { λ _. ⌜ Weighed shape (now (weights .entry)) scale row column (now (net .exit)) ⌝ }
+    ensures { λ _. ⌜ WeighedNet shape (now (weights .entry)) scale row column (now (net .exit)) ⌝ }
 {
     let u = shape.u;
     let v = shape.v;
-    let rows = u.degree + 1;
-    let columns = v.degree + 1;
-    let most = scale_over(weights, scale, v.controls, row, rows, column, columns, net);
-    divide(net, rows * columns, most);
+    let most = scale_over(shape, weights, scale, row, column, net);
+    divide(net, (u.degree + 1) * (v.degree + 1), most);
 }
 
 fn control(controls: &[f64], i: usize) -> Vector3
     requires { ⌜ 3 * i + 2 < length (now controls) ⌝ }
-    ensures { λ r. ⌜ r ≡ pointAt (lent (now (controls .entry)) [] 0) 0· i ⌝ }
+    ensures { λ r. ⌜ r ≡ controlAt (now (controls .entry)) i ⌝ }
 {
     Vector3 {
         x: controls[3 * i],
@@ -109,7 +107,7 @@ fn control(controls: &[f64], i: usize) -> Vector3
 }
 
 // The sums with the controls of a row added, `count` from `at` on, whose weights stand in the net from `from` on. The function of u there has the derivatives a.
-fn along(
+fn sums_along(
     controls: &[f64],
     net: &[f64; 289],
     from: usize,
@@ -120,7 +118,7 @@ fn along(
     start: Sums,
 ) -> Sums
     requires { ⌜ (count ≤ 17) × (from + count ≤ 289) × (3 * (at + count) ≤ length (now controls)) ⌝ }
-    ensures { λ r. ⌜ r ≡ alongBy with (now (controls .entry)) (threeOf a) (sequence (threeAt (now (v .entry))) count 0) (drop from (now (net .entry))) at start ⌝ }
+    ensures { λ r. ⌜ r ≡ turns (λ j t. addControl (threeOf a) (threeAt (now (v .entry)) j) (getD (now (net .entry)) (from + j) nan) (controlAt (now (controls .entry)) (at + j)) t) count start ⌝ }
 {
     let mut sums = start;
     for j in 0..count {
@@ -129,13 +127,13 @@ fn along(
             first: v[1][j],
             second: v[2][j],
         };
-        sums = with(a, b, net[from + j], control(controls, at + j), sums);
+        sums = add_control(a, b, net[from + j], control(controls, at + j), sums);
     }
     sums
 }
 
 // The sums over the patch that starts at a row and a column.
-fn over(
+pub(crate) fn sums_over(
     shape: Shape,
     controls: &[f64],
     net: &[f64; 289],
@@ -145,7 +143,7 @@ fn over(
     column: usize,
 ) -> Sums
     requires { ⌜ (length (now controls) ≡ 3 * (shape .u .controls * shape .v .controls)) × Patch shape row column ⌝ }
-    ensures { λ r. ⌜ r ≡ overBy with (now (controls .entry)) (shape .v .controls) (sequence (threeAt (now (u .entry))) (shape .u .degree + 1) 0) (sequence (threeAt (now (v .entry))) (shape .v .degree + 1) 0) (now (net .entry)) (row * shape .v .controls + column) emptySums ⌝ }
+    ensures { λ r. ⌜ r ≡ sumsBy shape (now (controls .entry)) row column (now (net .entry)) (now (u .entry)) (now (v .entry)) ⌝ }
 {
     let along_u = shape.u;
     let along_v = shape.v;
@@ -159,7 +157,7 @@ fn over(
             second: u[2][i],
         };
         let at = (row + i) * stride + column;
-        sums = along(controls, net, i * columns, a, v, at, columns, sums);
+        sums = sums_along(controls, net, i * columns, a, v, at, columns, sums);
     }
     sums
 }
@@ -176,7 +174,7 @@ fn sum_along(
     start: Sum,
 ) -> Sum
     requires { ⌜ (count ≤ 17) × (from + count ≤ 289) × (3 * (at + count) ≤ length (now controls)) ⌝ }
-    ensures { λ r. ⌜ r ≡ alongBy term (now (controls .entry)) a (sequence (numberAt (now (v .entry))) count 0) (drop from (now (net .entry))) at start ⌝ }
+    ensures { λ r. ⌜ r ≡ turns (λ j t. term a (numberAt (now (v .entry)) j) (getD (now (net .entry)) (from + j) nan) (controlAt (now (controls .entry)) (at + j)) t) count start ⌝ }
 {
     let mut sum = start;
     for j in 0..count {
@@ -196,7 +194,7 @@ pub fn sum_over(
     column: usize,
 ) -> Sum
     requires { ⌜ (length (now controls) ≡ 3 * (shape .u .controls * shape .v .controls)) × Patch shape row column ⌝ }
-    ensures { λ r. ⌜ r ≡ overBy term (now (controls .entry)) (shape .v .controls) (sequence (numberAt (now (u .entry))) (shape .u .degree + 1) 0) (sequence (numberAt (now (v .entry))) (shape .v .degree + 1) 0) (now (net .entry)) (row * shape .v .controls + column) emptySum ⌝ }
+    ensures { λ r. ⌜ r ≡ sumBy shape (now (controls .entry)) row column (now (net .entry)) (now (u .entry)) (now (v .entry)) ⌝ }
 {
     let along_u = shape.u;
     let along_v = shape.v;
@@ -208,20 +206,4 @@ pub fn sum_over(
         sum = sum_along(controls, net, i * columns, u[i], v, at, columns, sum);
     }
     sum
-}
-
-// The point and its derivatives where the functions of the axes start at a row and a column, with the weights of that patch.
-pub(crate) fn blend(
-    shape: Shape,
-    controls: &[f64],
-    net: &[f64; 289],
-    u: &[[f64; 18]; 3],
-    row: usize,
-    v: &[[f64; 18]; 3],
-    column: usize,
-) -> Evaluated
-    requires { ⌜ (length (now controls) ≡ 3 * (shape .u .controls * shape .v .controls)) × Patch shape row column ⌝ }
-    ensures { λ r. ⌜ ((ku kv ws : List Float) (m : Float) → Weighed shape ws m row column (now (net .entry)) → r ≡ blended (surface shape ku kv (now (controls .entry)) ws) m (sampleFrom (shape .u .degree) row (now (u .entry))) (sampleFrom (shape .v .degree) column (now (v .entry)))) ⌝ }
-{
-    rational(over(shape, controls, net, u, row, v, column))
 }

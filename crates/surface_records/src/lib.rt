@@ -4,7 +4,7 @@ use replay::Part;
 use surface::Shape;
 use surface::shape_of;
 ghost use lib.ListN.{length};
-ghost use Rattle.replay.specs.Cursors.{Within};
+ghost use Rattle.surface_records.specs.Surfaces.{Inside};
 
 // The shape, and where in the record the numbers stand that are lent with it. The record goes on where the weights end.
 pub struct Lent {
@@ -17,10 +17,7 @@ pub struct Lent {
 
 // Both degrees, both counts of controls, the flags; then four lists of numbers.
 pub fn lent_surface(c: Cursor, words: &[u64]) -> Lent
-    ensures { λ r. ⌜ Within (length (now (words .entry))) (r .ku) ⌝ }
-    ensures { λ r. ⌜ Within (length (now (words .entry))) (r .kv) ⌝ }
-    ensures { λ r. ⌜ Within (length (now (words .entry))) (r .controls) ⌝ }
-    ensures { λ r. ⌜ Within (length (now (words .entry))) (r .weights) ⌝ }
+    ensures { λ r. ⌜ Inside (length (now (words .entry))) r ⌝ }
 {
     let du = c.word(words);
     let c = du.next;

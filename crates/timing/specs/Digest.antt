@@ -15,4 +15,4 @@ ofSample (sample i (three x y z ∷ ts)) = x ⊕ y ⊕ z
 -- a number of the point and of each first derivative, summed
 unfoldable pub ofJet : Evaluated → Float
 ofJet Refused = nan
-ofJet (Found j) = j .x ⊕ j .uy ⊕ j .vz
+ofJet (Found j) = j .point .x ⊕ j .u .y ⊕ j .v .z

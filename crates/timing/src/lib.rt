@@ -1,15 +1,14 @@
 // The port's kernels, for bench/ to time. A caller has made the checks already, as the source's constructors do: nothing here makes them again.
 use patch::Evaluated;
 use spline::KnotSide;
-use surface::Counts;
-use surface::Shape;
 ghost use mathlib.Core.Path.{_≡_};
-ghost use mathlib.Core.Bool.{false};
 ghost use Rattle.float64.specs.Functions.{root, remEuclid};
 ghost use Rattle.spline.specs.Knots.{axis, refusalOfKnots};
 ghost use Rattle.spline.specs.declared.parameter.KnotSide.the-variants.{Right};
 ghost use Rattle.basis.specs.Basis.{basisAt};
-ghost use Rattle.surface.specs.Surface.{surface, refusalOfSurface, evaluateBy};
+ghost use Rattle.surface.specs.Flags.{shapeOf};
+ghost use Rattle.surface.specs.Surface.{refusalOfSurface, evaluateBy};
+ghost use Rattle.surface.specs.Lent.{surfaceOf, atEntry};
 ghost use Rattle.timing.specs.Digest.{ofSample, ofJet};
 
 #[no_mangle]
@@ -38,6 +37,7 @@ pub extern "C" fn time_basis(knots: &[f64], degree: usize, controls: usize, u: f
     b.values[0] + b.firsts[0] + b.seconds[0]
 }
 
+// No axis is periodic.
 #[no_mangle]
 pub extern "C" fn time_evaluate(
     pu: usize,
@@ -52,24 +52,13 @@ pub extern "C" fn time_evaluate(
     u: f64,
     v: f64,
 ) -> f64
-    requires { ⌜ refusalOfSurface (surface (record { u = record { degree = pu; controls = nu; periodic = false }; v = record { degree = pv; controls = nv; periodic = false } }) (now ku) (now kv) (now controls) (now weights)) ≡ 0 ⌝ }
-    ensures { λ r. ⌜ r ≡ ofJet (evaluateBy (surface (record { u = record { degree = pu; controls = nu; periodic = false }; v = record { degree = pv; controls = nv; periodic = false } }) (now (ku .entry)) (now (kv .entry)) (now (controls .entry)) (now (weights .entry))) scale u v) ⌝ }
+    requires { ⌜ refusalOfSurface (surfaceOf (shapeOf pu pv nu nv 0) ku kv controls weights) ≡ 0 ⌝ }
+    ensures { λ r. ⌜ r ≡ ofJet (evaluateBy (atEntry (shapeOf pu pv nu nv 0) ku kv controls weights) scale u v) ⌝ }
 {
-    let shape = Shape {
-        u: Counts {
-            degree: pu,
-            controls: nu,
-            periodic: false,
-        },
-        v: Counts {
-            degree: pv,
-            controls: nv,
-            periodic: false,
-        },
-    };
+    let shape = surface::shape_of(pu, pv, nu, nv, 0);
     let jet = surface::surface_jet(shape, ku, kv, controls, weights, scale, u, v);
     let Evaluated::Found(j) = jet else {
         return 0.0f64 / 0.0f64;
     };
-    j.x + j.uy + j.vz
+    j.point.x + j.u.y + j.v.z
 }

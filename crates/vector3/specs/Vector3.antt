@@ -1,7 +1,8 @@
 -- Vectors of three floats. Sums go from the left. Definitions only.
+use mathlib.Core.Bool.{Bool, _&&_}
 use lib.Ieee.{Float}
 use Rattle.float64.specs.Operators.{_⊕_, _⊖_, _⊗_}
-use Rattle.float64.specs.Functions.{root}
+use Rattle.float64.specs.Functions.{isFinite, root}
 use Rattle.vector3.specs.declared.Vector3.{Vector3}
 
 unfoldable pub sub : Vector3 → Vector3 → Vector3
@@ -15,3 +16,6 @@ norm a = root (dot a a)
 
 unfoldable pub distance : Vector3 → Vector3 → Float
 distance a b = norm (sub a b)
+
+unfoldable pub finiteVector : Vector3 → Bool
+finiteVector a = isFinite (a .x) && isFinite (a .y) && isFinite (a .z)

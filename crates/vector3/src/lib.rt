@@ -1,4 +1,5 @@
 // Vectors of space. Sums go from the left: the order decides how they round.
+use float64::is_finite;
 use float64::root;
 ghost use mathlib.Core.Path.{_≡_};
 ghost use Rattle.vector3.specs.Vector3 as Vectors;
@@ -35,4 +36,10 @@ pub fn distance(a: Vector3, b: Vector3) -> f64
     ensures { λ r. ⌜ r ≡ Vectors.distance a b ⌝ }
 {
     norm(sub(a, b))
+}
+
+pub fn finite_vector(a: Vector3) -> bool
+    ensures { λ r. ⌜ r ≡ Vectors.finiteVector a ⌝ }
+{
+    is_finite(a.x) & is_finite(a.y) & is_finite(a.z)
 }

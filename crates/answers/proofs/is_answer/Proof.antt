@@ -28,23 +28,8 @@ module _ (xs : List Float) where
 returns : tie.Need-returns
 returns c = nothing _ _ (search needs)
 
-shared-slice-read-if2 : tie.Need-shared-slice-read-if2
-shared-slice-read-if2 c = search needs
-
 returns-2 : tie.Need-returns-2
 returns-2 c = sym (apart _ _ (omega arith) ∙ simp (ne-eqb _ _ (c .if2 .taken)))
-
-sub-same-list : tie.Need-sub-same-list
-sub-same-list c = search needs
-
-part-same-list-start : tie.Need-part-same-list-start
-part-same-list-start c = search needs
-
-part-same-list-end : tie.Need-part-same-list-end
-part-same-list-end c = search needs
-
-same-list-requires : tie.Need-same-list-requires
-same-list-requires c κs = search needs
 
 returns-3 : tie.Need-returns-3
 returns-3 c =
@@ -55,10 +40,10 @@ is-answer-spec =
     tie.close
     (tie.spec
     returns
-    shared-slice-read-if2
+    (λ c. search needs)
     returns-2
-    sub-same-list
-    part-same-list-start
-    part-same-list-end
-    same-list-requires
+    (λ c. search needs)
+    (λ c. search needs)
+    (λ c. search needs)
+    (λ c κs. search needs)
     returns-3)

@@ -27,11 +27,8 @@ module _ (n : ℕ) where
 returns : tie.Need-returns
 returns c = other _ _ (search needs)
 
-shared-slice-read-result : tie.Need-shared-slice-read-result
-shared-slice-read-result c = search needs
-
 returns-2 : tie.Need-returns-2
 returns-2 c = alone _ _ (search needs)
 
 pub is-refusal-spec : {M : Type 1} → statement M
-is-refusal-spec = tie.close (tie.spec returns shared-slice-read-result returns-2)
+is-refusal-spec = tie.close (tie.spec returns (λ c. search needs) returns-2)

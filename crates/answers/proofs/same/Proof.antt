@@ -17,9 +17,6 @@ ne-isNan (inf false) = refl
 ne-isNan (fin true m e) = simp (eq-eqb (m * up e * down e) (m * up e * down e) refl)
 ne-isNan (fin false m e) = simp (eq-eqb (m * up e * down e) (m * up e * down e) refl)
 
-is-nan-requires : tie.Need-is-nan-requires
-is-nan-requires c κs = search needs
-
 returns : tie.Need-returns
 unfolding sameBits
 returns c = simp (← ne-isNan, c .before .if1 .taken) (c .is-nan .ensures)
@@ -32,4 +29,4 @@ unfolding sameBits
 returns-2 c = simp (← ne-isNan, c .if1 .left)
 
 pub same-spec : {M : Type 1} → statement M
-same-spec = tie.close (tie.spec is-nan-requires returns float-to-bits-result returns-2)
+same-spec = tie.close (tie.spec (λ c κs. search needs) returns float-to-bits-result returns-2)

@@ -6,9 +6,6 @@ use borrow.Author.Needs.{needs}
 use Rattle.basis.proofs.first_at.Statement.{statement}
 use Rattle.basis.proofs.first_at.Tie as tie
 
-span-requires : tie.Need-span-requires
-span-requires c κs = search needs
-
 sub-result : tie.Need-sub-result
 sub-result c = let b = bounds _ _ _ _ (accepted _ (c .before .before .pre) .degree-below) (c .span .ensures) in omega arith
 
@@ -18,4 +15,4 @@ returns c =
     (omega (arith, c .span .ensures), omega arith)
 
 pub first-at-spec : {M : Type 1} → statement M
-first-at-spec = tie.close (tie.spec span-requires sub-result returns)
+first-at-spec = tie.close (tie.spec (λ c κs. search needs) sub-result returns)

@@ -19,81 +19,15 @@ Inv-loop knots start p d u rows₀ next n from a₀ j₀ j-end rows a j =
 abbrev μ-loop : tie.MeasureT-loop
 μ-loop knots start p d u rows₀ next n from a₀ j₀ j-end rows a j = p + 1 - j
 
-add-next : tie.Need-add-next Inv-loop μ-loop
-add-next c = search needs
-
 int-to-float-n : tie.Need-int-to-float-n Inv-loop μ-loop
 unfolding inFloat
 int-to-float-n c = le→leb (c .before .before .args .d + 1) (2 ^ 53) (omega arith)
-
-sub-from : tie.Need-sub-from Inv-loop μ-loop
-sub-from c = search needs
-
-add-term-at : tie.Need-add-term-at Inv-loop μ-loop
-add-term-at c = search needs
-
-mul-term-at : tie.Need-mul-term-at Inv-loop μ-loop
-mul-term-at c = search needs
-
-index-1-term-at : tie.Need-index-1-term-at Inv-loop μ-loop
-index-1-term-at c = search needs
-
-index-2-term-at : tie.Need-index-2-term-at Inv-loop μ-loop
-index-2-term-at c = search needs
-
-mul-term-at-2 : tie.Need-mul-term-at-2 Inv-loop μ-loop
-mul-term-at-2 c = search needs
-
-index-1-term-at-2 : tie.Need-index-1-term-at-2 Inv-loop μ-loop
-index-1-term-at-2 c = search needs
-
-index-2-term-at-2 : tie.Need-index-2-term-at-2 Inv-loop μ-loop
-index-2-term-at-2 c = search needs
-
-term-at-requires : tie.Need-term-at-requires Inv-loop μ-loop
-term-at-requires c κs = search needs
-
-add-j-end : tie.Need-add-j-end Inv-loop μ-loop
-add-j-end c = search needs
 
 loop-holds : tie.Need-loop-holds Inv-loop μ-loop
 unfolding ofInt ofNat
 loop-holds c =
     let at = c .before .before .before .before .before in
     (omega arith, omega arith, begin _ _ _ _ _ (at .pre .0) (at .pre .1) _ (at .pre .3), c .term-at .ensures)
-
-add-k : tie.Need-add-k Inv-loop μ-loop
-add-k c = search needs
-
-add-term-at-2 : tie.Need-add-term-at-2 Inv-loop μ-loop
-add-term-at-2 c = search needs
-
-mul-term-at-3 : tie.Need-mul-term-at-3 Inv-loop μ-loop
-mul-term-at-3 c = search needs
-
-index-1-term-at-3 : tie.Need-index-1-term-at-3 Inv-loop μ-loop
-index-1-term-at-3 c = search needs
-
-index-2-term-at-3 : tie.Need-index-2-term-at-3 Inv-loop μ-loop
-index-2-term-at-3 c = search needs
-
-mul-term-at-4 : tie.Need-mul-term-at-4 Inv-loop μ-loop
-mul-term-at-4 c = search needs
-
-index-1-term-at-4 : tie.Need-index-1-term-at-4 Inv-loop μ-loop
-index-1-term-at-4 c = search needs
-
-index-2-term-at-4 : tie.Need-index-2-term-at-4 Inv-loop μ-loop
-index-2-term-at-4 c = search needs
-
-term-at-requires-2 : tie.Need-term-at-requires-2 Inv-loop μ-loop
-term-at-requires-2 c κs = search needs
-
-mix-requires : tie.Need-mix-requires Inv-loop μ-loop
-mix-requires c κs = search needs
-
-sound-requires : tie.Need-sound-requires Inv-loop μ-loop
-sound-requires c κs = search needs
 
 returns : tie.Need-returns Inv-loop μ-loop
 unfolding ofInt ofNat
@@ -103,39 +37,6 @@ returns c =
     let start = at .before .before .before .before .before .before in
     stop _ _ _ _ _ (start .pre .0) (start .pre .1) _ _ _ _ _ (at .loop .inv .2) (omega arith) (omega arith) (at .loop .inv .3) (mixed .before .term-at2 .ensures) (mixed .mix .ensures)
     (sym (c .before .sound .ensures) ∙ not-true _ (c .if1 .taken))
-
-mul-rows : tie.Need-mul-rows Inv-loop μ-loop
-mul-rows c = search needs
-
-index-1-rows : tie.Need-index-1-rows Inv-loop μ-loop
-index-1-rows c = search needs
-
-index-2-rows : tie.Need-index-2-rows Inv-loop μ-loop
-index-2-rows c = search needs
-
-mul-rows-2 : tie.Need-mul-rows-2 Inv-loop μ-loop
-mul-rows-2 c = search needs
-
-index-1-rows-2 : tie.Need-index-1-rows-2 Inv-loop μ-loop
-index-1-rows-2 c = search needs
-
-index-2-rows-2 : tie.Need-index-2-rows-2 Inv-loop μ-loop
-index-2-rows-2 c = search needs
-
-mul-rows-3 : tie.Need-mul-rows-3 Inv-loop μ-loop
-mul-rows-3 c = search needs
-
-index-1-rows-3 : tie.Need-index-1-rows-3 Inv-loop μ-loop
-index-1-rows-3 c = search needs
-
-index-2-rows-3 : tie.Need-index-2-rows-3 Inv-loop μ-loop
-index-2-rows-3 c = search needs
-
-add-j : tie.Need-add-j Inv-loop μ-loop
-add-j c = search needs
-
-loop-less : tie.Need-loop-less Inv-loop μ-loop
-loop-less c = search needs
 
 loop-again : tie.Need-loop-again Inv-loop μ-loop
 unfolding ofInt ofNat
@@ -162,41 +63,41 @@ raise-spec =
     (tie.spec
     Inv-loop
     μ-loop
-    add-next
+    (λ c. search needs)
     int-to-float-n
-    sub-from
-    add-term-at
-    mul-term-at
-    index-1-term-at
-    index-2-term-at
-    mul-term-at-2
-    index-1-term-at-2
-    index-2-term-at-2
-    term-at-requires
-    add-j-end
+    (λ c. search needs)
+    (λ c. search needs)
+    (λ c. search needs)
+    (λ c. search needs)
+    (λ c. search needs)
+    (λ c. search needs)
+    (λ c. search needs)
+    (λ c. search needs)
+    (λ c κs. search needs)
+    (λ c. search needs)
     loop-holds
-    add-k
-    add-term-at-2
-    mul-term-at-3
-    index-1-term-at-3
-    index-2-term-at-3
-    mul-term-at-4
-    index-1-term-at-4
-    index-2-term-at-4
-    term-at-requires-2
-    mix-requires
-    sound-requires
+    (λ c. search needs)
+    (λ c. search needs)
+    (λ c. search needs)
+    (λ c. search needs)
+    (λ c. search needs)
+    (λ c. search needs)
+    (λ c. search needs)
+    (λ c. search needs)
+    (λ c κs. search needs)
+    (λ c κs. search needs)
+    (λ c κs. search needs)
     returns
-    mul-rows
-    index-1-rows
-    index-2-rows
-    mul-rows-2
-    index-1-rows-2
-    index-2-rows-2
-    mul-rows-3
-    index-1-rows-3
-    index-2-rows-3
-    add-j
-    loop-less
+    (λ c. search needs)
+    (λ c. search needs)
+    (λ c. search needs)
+    (λ c. search needs)
+    (λ c. search needs)
+    (λ c. search needs)
+    (λ c. search needs)
+    (λ c. search needs)
+    (λ c. search needs)
+    (λ c. search needs)
+    (λ c. search needs)
     loop-again
     returns-2)

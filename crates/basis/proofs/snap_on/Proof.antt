@@ -17,12 +17,6 @@ mul-snap-2 c = let p = accepted _ (c .before .before .pre) in omega arith
 shared-slice-read-snap-2 : tie.Need-shared-slice-read-snap-2
 shared-slice-read-snap-2 c = let p = accepted _ (c .before .before .before .pre) in omega arith
 
-snap-requires : tie.Need-snap-requires
-snap-requires c κs = search needs
-
-returns : tie.Need-returns
-returns c = search needs
-
 pub snap-on-spec : {M : Type 1} → statement M
 snap-on-spec =
     tie.close
@@ -31,5 +25,5 @@ snap-on-spec =
     shared-slice-read-snap
     mul-snap-2
     shared-slice-read-snap-2
-    snap-requires
-    returns)
+    (λ c κs. search needs)
+    (λ c. search needs))

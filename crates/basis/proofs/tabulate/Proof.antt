@@ -11,12 +11,6 @@ use Rattle.basis.proofs.tabulate.Tie as tie
 snap-on-requires : tie.Need-snap-on-requires
 snap-on-requires c κs = c .before .pre .0
 
-enum-known-t : tie.Need-enum-known-t
-enum-known-t c = search needs
-
-enum-told : tie.Need-enum-told
-enum-told c = search needs
-
 returns : tie.Need-returns
 unfolding shown
 returns c = sym (nowhere _ _ _ _ (c .before .before .snap-on .ensures) (c .enum-told .given .1))
@@ -43,8 +37,8 @@ tabulate-spec =
     tie.close
     (tie.spec
     snap-on-requires
-    enum-known-t
-    enum-told
+    (λ c. search needs)
+    (λ c. search needs)
     returns
     first-at-requires
     triangle-requires

@@ -31,24 +31,6 @@ module _ (ks : List Float) (i d : ℕ) (n u x y : Float) where
   unfolding termAt
   steep h = simp h
 
-mul-s : tie.Need-mul-s
-mul-s c = search needs
-
-shared-slice-read-s : tie.Need-shared-slice-read-s
-shared-slice-read-s c = search needs
-
-add-t : tie.Need-add-t
-add-t c = search needs
-
-mul-t : tie.Need-mul-t
-mul-t c = search needs
-
-shared-slice-read-t : tie.Need-shared-slice-read-t
-shared-slice-read-t c = search needs
-
-absent-requires : tie.Need-absent-requires
-absent-requires c κs = search needs
-
 returns : tie.Need-returns
 returns c =
     let a = c .before .before .before .before .before .args in
@@ -63,11 +45,11 @@ pub term-at-spec : {M : Type 1} → statement M
 term-at-spec =
     tie.close
     (tie.spec
-    mul-s
-    shared-slice-read-s
-    add-t
-    mul-t
-    shared-slice-read-t
-    absent-requires
+    (λ c. search needs)
+    (λ c. search needs)
+    (λ c. search needs)
+    (λ c. search needs)
+    (λ c. search needs)
+    (λ c κs. search needs)
     returns
     returns-2)

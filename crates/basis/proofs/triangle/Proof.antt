@@ -14,15 +14,6 @@ Inv-loop knots start p u rows₀ d₀ rows d = (d ≤ p) × Columns rows (E knot
 abbrev μ-loop : tie.MeasureT-loop
 μ-loop knots start p u rows₀ d₀ rows d = p - d
 
-mul-rows : tie.Need-mul-rows Inv-loop μ-loop
-mul-rows c = search needs
-
-index-1-rows : tie.Need-index-1-rows Inv-loop μ-loop
-index-1-rows c = search needs
-
-index-2-rows : tie.Need-index-2-rows Inv-loop μ-loop
-index-2-rows c = search needs
-
 loop-holds : tie.Need-loop-holds Inv-loop μ-loop
 loop-holds c = (omega arith, begin _ _ _ _ (c .before .pre .0) _ (c .before .pre .2))
 
@@ -34,12 +25,6 @@ returns c =
     let raised = c .before in
     let at = raised .before .before .before in
     stop _ _ _ _ (at .before .before .pre .0) (at .loop .d) (omega arith) (raised .raise .result) _ (raised .raise .ensures) (c .if1 .taken)
-
-add-d : tie.Need-add-d Inv-loop μ-loop
-add-d c = search needs
-
-loop-less : tie.Need-loop-less Inv-loop μ-loop
-loop-less c = search needs
 
 loop-again : tie.Need-loop-again Inv-loop μ-loop
 loop-again c =
@@ -58,13 +43,13 @@ triangle-spec =
     (tie.spec
     Inv-loop
     μ-loop
-    mul-rows
-    index-1-rows
-    index-2-rows
+    (λ c. search needs)
+    (λ c. search needs)
+    (λ c. search needs)
     loop-holds
     raise-requires
     returns
-    add-d
-    loop-less
+    (λ c. search needs)
+    (λ c. search needs)
     loop-again
     returns-2)

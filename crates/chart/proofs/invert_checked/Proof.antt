@@ -5,23 +5,17 @@ use borrow.Author.Needs.{needs}
 use Rattle.chart.proofs.invert_checked.Statement.{statement}
 use Rattle.chart.proofs.invert_checked.Tie as tie
 
-sound-requires : tie.Need-sound-requires
-sound-requires c κs = search needs
-
 returns : tie.Need-returns
-returns c = not-sound _ _ _ _ _ _ _ _ (c .before .sound .ensures) (not-true _ (c .if1 .taken))
+returns c = not-sound _ _ _ _ _ (c .before .sound .ensures) (not-true _ (c .if1 .taken))
 
 invert-nurbs-requires : tie.Need-invert-nurbs-requires
 invert-nurbs-requires c κs =
     let at = c .before in
-    (at .before .before .before .before .before .pre, mark-finite _ _ _ _ _ (sym (at .sound .ensures) ∙ not-false _ (c .if1 .left)))
-
-outcome-requires : tie.Need-outcome-requires
-outcome-requires c κs = search needs
+    (at .before .before .before .before .before .pre, mark-finite _ _ (sym (at .sound .ensures) ∙ not-false _ (c .if1 .left)))
 
 returns-2 : tie.Need-returns-2
-returns-2 c = let at = c .before .before in found _ _ _ _ _ _ _ _ (at .before .sound .ensures) (not-false _ (at .if1 .left)) (c .before .invert-nurbs .ensures) (c .outcome .ensures)
+returns-2 c = let at = c .before .before in found _ _ _ _ _ (at .before .sound .ensures) (not-false _ (at .if1 .left)) (c .before .invert-nurbs .ensures) (c .placing-of .ensures)
 
 pub invert-checked-spec : {M : Type 1} → statement M
 invert-checked-spec =
-    tie.close (tie.spec sound-requires returns invert-nurbs-requires outcome-requires returns-2)
+    tie.close (tie.spec (λ c κs. search needs) returns invert-nurbs-requires (λ c κs. search needs) returns-2)

@@ -14,12 +14,6 @@ Inv-loop n k₀ rest₀ k rest = (1 ≤ k) × (k ≤ 20) × (rest < 10 ^ suc (20
 abbrev μ-loop : tie.MeasureT-loop
 μ-loop n k₀ rest₀ k rest = 20 - k
 
-loop-holds : tie.Need-loop-holds Inv-loop μ-loop
-loop-holds c = search needs
-
-add-k : tie.Need-add-k Inv-loop μ-loop
-add-k c = search needs
-
 loop-less : tie.Need-loop-less Inv-loop μ-loop
 loop-less c =
     let l = c .before .loop in
@@ -42,4 +36,4 @@ returns c =
     (omega (arith, places-over (20 - l .k) (l .rest) (c .loop-test .left)), search needs)
 
 pub places-spec : {M : Type 1} → statement M
-places-spec = tie.close (tie.spec Inv-loop μ-loop loop-holds add-k loop-less loop-again returns)
+places-spec = tie.close (tie.spec Inv-loop μ-loop (λ c. search needs) (λ c. search needs) loop-less loop-again returns)

@@ -6,15 +6,6 @@ use borrow.Author.Needs.{needs}
 use Rattle.digits.proofs.put_hex.Statement.{statement}
 use Rattle.digits.proofs.put_hex.Tie as tie
 
-spell-requires : tie.Need-spell-requires
-spell-requires c κs = search needs
-
-add-result : tie.Need-add-result
-add-result c = search needs
-
-same-length : tie.Need-same-length
-same-length c = search needs
-
 returns : tie.Need-returns
 returns c =
     let s = c .before .before in
@@ -22,4 +13,4 @@ returns c =
     (hex-put (a .at) (a .out .now) _ (a .n) (s .spell .ensures) (omega arith), refl)
 
 pub put-hex-spec : {M : Type 1} → statement M
-put-hex-spec = tie.close (tie.spec spell-requires add-result same-length returns)
+put-hex-spec = tie.close (tie.spec (λ c κs. search needs) (λ c. search needs) (λ c. search needs) returns)

@@ -17,12 +17,6 @@ module _ (x y : Float) {r : Float} (e : r ≡ rem binary64 x y) where
   unfolding remEuclid
   kept h = rw (← e, h)
 
-remainder-requires : tie.Need-remainder-requires
-remainder-requires c κs = search needs
-
-abs-requires : tie.Need-abs-requires
-abs-requires c κs = search needs
-
 returns : tie.Need-returns
 returns c = moved _ _ (c .before .before .remainder .ensures) _ (c .abs .ensures) (c .before .if1 .taken)
 
@@ -30,4 +24,4 @@ returns-2 : tie.Need-returns-2
 returns-2 c = kept _ _ (c .before .remainder .ensures) (c .if1 .left)
 
 pub rem-euclid-spec : {M : Type 1} → statement M
-rem-euclid-spec = tie.close (tie.spec remainder-requires abs-requires returns returns-2)
+rem-euclid-spec = tie.close (tie.spec (λ c κs. search needs) (λ c κs. search needs) returns returns-2)

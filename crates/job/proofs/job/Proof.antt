@@ -5,18 +5,6 @@ use borrow.Author.Needs.{needs}
 use Rattle.job.proofs.job.Statement.{statement}
 use Rattle.job.proofs.job.Tie as tie
 
-layout-of-requires : tie.Need-layout-of-requires
-layout-of-requires c κs = search needs
-
-enum-told : tie.Need-enum-told
-enum-told c = search needs
-
-put-refusal-requires : tie.Need-put-refusal-requires
-put-refusal-requires c κs = search needs
-
-enum-known-layout : tie.Need-enum-known-layout
-enum-known-layout c = search needs
-
 print-job-requires : tie.Need-print-job-requires
 print-job-requires c κs =
     let l = c .before .before .before .before in
@@ -38,10 +26,10 @@ pub job-spec : {M : Type 1} → statement M
 job-spec =
     tie.close
     (tie.spec
-    layout-of-requires
-    enum-told
-    put-refusal-requires
-    enum-known-layout
+    (λ c κs. search needs)
+    (λ c. search needs)
+    (λ c κs. search needs)
+    (λ c. search needs)
     print-job-requires
     returns
     returns-2)

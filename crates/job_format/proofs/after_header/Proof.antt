@@ -8,21 +8,12 @@ use borrow.Author.Needs.{needs}
 use Rattle.job_format.proofs.after_header.Statement.{statement}
 use Rattle.job_format.proofs.after_header.Tie as tie
 
-numbers-end-requires : tie.Need-numbers-end-requires
-numbers-end-requires c κs = search needs
-
-add-if1 : tie.Need-add-if1
-add-if1 c = search needs
-
 returns : tie.Need-returns
 unfolding told
 returns c =
     let n = c .before in
     let a = n .before .before .args in
     (cut-off (a .bytes .now) (a .shape) (n .numbers-end .result) (n .numbers-end .ensures .0) (n .before .before .pre .0) (c .if1 .taken), tt)
-
-is-mark-requires : tie.Need-is-mark-requires
-is-mark-requires c κs = search needs
 
 returns-2 : tie.Need-returns-2
 unfolding told
@@ -32,12 +23,6 @@ returns-2 c =
     let a = n .before .before .args in
     (no-terms (a .bytes .now) (a .shape) (n .numbers-end .result) (n .numbers-end .ensures .0) (n .before .before .pre .0) (m .before .if1 .left) (m .is-mark .result) (m .is-mark .ensures) (not-true _ (c .if2 .taken)), tt)
 
-add-left : tie.Need-add-left
-add-left c = search needs
-
-sub-left : tie.Need-sub-left
-sub-left c = search needs
-
 returns-3 : tie.Need-returns-3
 unfolding told
 returns-3 c =
@@ -46,12 +31,6 @@ returns-3 c =
     let n = m .before .before in
     let a = n .before .before .args in
     (bytes-left (a .bytes .now) (a .shape) (n .numbers-end .result) (n .numbers-end .ensures .0) (n .before .before .pre .0) (m .before .if1 .left) (m .is-mark .result) (m .is-mark .ensures) (not-false _ (t .if2 .left)) (c .if3 .taken), tt)
-
-add-all-marks : tie.Need-add-all-marks
-add-all-marks c = search needs
-
-all-marks-requires : tie.Need-all-marks-requires
-all-marks-requires c κs = search needs
 
 returns-4 : tie.Need-returns-4
 unfolding told
@@ -79,15 +58,15 @@ pub after-header-spec : {M : Type 1} → statement M
 after-header-spec =
     tie.close
     (tie.spec
-    numbers-end-requires
-    add-if1
+    (λ c κs. search needs)
+    (λ c. search needs)
     returns
-    is-mark-requires
+    (λ c κs. search needs)
     returns-2
-    add-left
-    sub-left
+    (λ c. search needs)
+    (λ c. search needs)
     returns-3
-    add-all-marks
-    all-marks-requires
+    (λ c. search needs)
+    (λ c κs. search needs)
     returns-4
     returns-5)

@@ -18,27 +18,12 @@ abbrev μ-loop : tie.MeasureT-loop
 loop-holds : tie.Need-loop-holds Inv-loop μ-loop
 loop-holds c = (search needs, marks-begin _ _ _)
 
-mul-is-mark : tie.Need-mul-is-mark Inv-loop μ-loop
-mul-is-mark c = search needs
-
-add-is-mark : tie.Need-add-is-mark Inv-loop μ-loop
-add-is-mark c = search needs
-
-is-mark-requires : tie.Need-is-mark-requires Inv-loop μ-loop
-is-mark-requires c κs = search needs
-
 returns : tie.Need-returns Inv-loop μ-loop
 returns c =
     let to = c .before .before .before in
     let a = to .before .before .args in
     let l = to .loop in
     l .inv .1 false (marks-stop (a .bytes .now) (a .at) (a .marks) (l .i) (omega arith) (omega arith) (c .before .is-mark .result) (c .before .is-mark .ensures) (not-true _ (c .if1 .taken)))
-
-add-i : tie.Need-add-i Inv-loop μ-loop
-add-i c = search needs
-
-loop-less : tie.Need-loop-less Inv-loop μ-loop
-loop-less c = search needs
 
 loop-again : tie.Need-loop-again Inv-loop μ-loop
 loop-again c =
@@ -62,11 +47,11 @@ all-marks-spec =
     Inv-loop
     μ-loop
     loop-holds
-    mul-is-mark
-    add-is-mark
-    is-mark-requires
+    (λ c. search needs)
+    (λ c. search needs)
+    (λ c κs. search needs)
     returns
-    add-i
-    loop-less
+    (λ c. search needs)
+    (λ c. search needs)
     loop-again
     returns-2)

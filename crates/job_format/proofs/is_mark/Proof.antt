@@ -5,18 +5,9 @@ use borrow.Author.Needs.{needs}
 use Rattle.job_format.proofs.is_mark.Statement.{statement}
 use Rattle.job_format.proofs.is_mark.Tie as tie
 
-shared-slice-read-result : tie.Need-shared-slice-read-result
-shared-slice-read-result c = search needs
-
-add-result : tie.Need-add-result
-add-result c = search needs
-
-shared-slice-read-result-2 : tie.Need-shared-slice-read-result-2
-shared-slice-read-result-2 c = search needs
-
 returns : tie.Need-returns
 returns c = let a = c .before .before .args in mark-at (a .bytes .now) (a .first) (a .second) (a .at) (omega arith)
 
 pub is-mark-spec : {M : Type 1} → statement M
 is-mark-spec =
-    tie.close (tie.spec shared-slice-read-result add-result shared-slice-read-result-2 returns)
+    tie.close (tie.spec (λ c. search needs) (λ c. search needs) (λ c. search needs) returns)

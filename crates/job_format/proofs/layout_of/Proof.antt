@@ -16,18 +16,12 @@ returns-2 : tie.Need-returns-2
 unfolding told
 returns-2 c = (no-header (c .before .before .before .args .bytes .now) (c .before .if1 .left) (c .if2 .taken), tt)
 
-is-mark-requires : tie.Need-is-mark-requires
-is-mark-requires c κs = search needs
-
 returns-3 : tie.Need-returns-3
 unfolding told
 returns-3 c =
     let m = c .before in
     let s = m .before .before in
     (no-surface (s .before .before .args .bytes .now) (s .if1 .left) (m .before .if2 .left) (m .is-mark .result) (m .is-mark .ensures) (not-true _ (c .if3 .taken)), tt)
-
-shared-slice-read-if4 : tie.Need-shared-slice-read-if4
-shared-slice-read-if4 c = search needs
 
 returns-4 : tie.Need-returns-4
 unfolding told
@@ -36,12 +30,6 @@ returns-4 c =
     let m = t .before in
     let s = m .before .before in
     (wrong-flags (s .before .before .args .bytes .now) (s .if1 .left) (m .before .if2 .left) (m .is-mark .result) (m .is-mark .ensures) (not-false _ (t .if3 .left)) (c .if4 .taken), tt)
-
-header-shape-requires : tie.Need-header-shape-requires
-header-shape-requires c κs = search needs
-
-after-header-requires : tie.Need-after-header-requires
-after-header-requires c κs = search needs
 
 returns-5 : tie.Need-returns-5
 returns-5 c =
@@ -60,10 +48,10 @@ layout-of-spec =
     (tie.spec
     returns
     returns-2
-    is-mark-requires
+    (λ c κs. search needs)
     returns-3
-    shared-slice-read-if4
+    (λ c. search needs)
     returns-4
-    header-shape-requires
-    after-header-requires
+    (λ c κs. search needs)
+    (λ c κs. search needs)
     returns-5)

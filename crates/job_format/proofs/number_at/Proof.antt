@@ -6,15 +6,9 @@ use borrow.Author.Needs.{needs}
 use Rattle.job_format.proofs.number_at.Statement.{statement}
 use Rattle.job_format.proofs.number_at.Tie as tie
 
-word-at-requires : tie.Need-word-at-requires
-word-at-requires c κs = search needs
-
-float-requires : tie.Need-float-requires
-float-requires c κs = search needs
-
 returns : tie.Need-returns
 unfolding floatAt
 returns c = c .float .ensures ∙ ap (ofBits binary64) (c .before .word-at .ensures)
 
 pub number-at-spec : {M : Type 1} → statement M
-number-at-spec = tie.close (tie.spec word-at-requires float-requires returns)
+number-at-spec = tie.close (tie.spec (λ c κs. search needs) (λ c κs. search needs) returns)

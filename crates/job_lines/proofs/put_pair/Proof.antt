@@ -10,38 +10,8 @@ use Rattle.job_lines.proofs.put_pair.Tie as tie
 float-to-bits-put-hex : tie.Need-float-to-bits-put-hex
 float-to-bits-put-hex c = simp (c .before .before .pre .1) tt
 
-put-hex-requires : tie.Need-put-hex-requires
-put-hex-requires c κs = search needs
-
-slice-aggregate-put : tie.Need-slice-aggregate-put
-slice-aggregate-put c = search needs
-
-put-requires : tie.Need-put-requires
-put-requires c κs = search needs
-
 float-to-bits-put-hex-2 : tie.Need-float-to-bits-put-hex-2
 float-to-bits-put-hex-2 c = simp (c .before .before .before .before .before .before .before .before .before .before .before .pre .2) tt
-
-put-hex-requires-2 : tie.Need-put-hex-requires-2
-put-hex-requires-2 c κs = search needs
-
-slice-aggregate-put-2 : tie.Need-slice-aggregate-put-2
-slice-aggregate-put-2 c = search needs
-
-put-requires-2 : tie.Need-put-requires-2
-put-requires-2 c κs = search needs
-
-put-decimal-requires : tie.Need-put-decimal-requires
-put-decimal-requires c κs = search needs
-
-slice-aggregate-put-3 : tie.Need-slice-aggregate-put-3
-slice-aggregate-put-3 c = search needs
-
-put-requires-3 : tie.Need-put-requires-3
-put-requires-3 c κs = search needs
-
-same-length : tie.Need-same-length
-same-length c = search needs
 
 returns : tie.Need-returns
 unfolding pairLine ascii
@@ -59,15 +29,15 @@ put-pair-spec =
     tie.close
     (tie.spec
     float-to-bits-put-hex
-    put-hex-requires
-    slice-aggregate-put
-    put-requires
+    (λ c κs. search needs)
+    (λ c. search needs)
+    (λ c κs. search needs)
     float-to-bits-put-hex-2
-    put-hex-requires-2
-    slice-aggregate-put-2
-    put-requires-2
-    put-decimal-requires
-    slice-aggregate-put-3
-    put-requires-3
-    same-length
+    (λ c κs. search needs)
+    (λ c. search needs)
+    (λ c κs. search needs)
+    (λ c κs. search needs)
+    (λ c. search needs)
+    (λ c κs. search needs)
+    (λ c. search needs)
     returns)

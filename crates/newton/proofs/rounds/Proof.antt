@@ -1,4 +1,4 @@
--- The invariant: the rounds are those that are left from here, with a unit paid for each evaluation, and the held pair has its distance.
+-- The invariant: the rounds are those that are left from here, with a unit paid for each evaluation.
 use mathlib.Core.Path.{refl}
 use Prim.Native.Nat.{_-_}
 use native.Mathlib.Omega.{arith}
@@ -10,34 +10,22 @@ use Rattle.newton.proofs.rounds.Statement.{statement}
 use Rattle.newton.proofs.rounds.Tie as tie
 
 abbrev Inv-loop : tie.InvT-loop
-Inv-loop shape ku kv controls weights scale domain mark budget held₀ taken₀ held taken =
-    let eval = evaluateBy (surface shape ku kv controls weights) (scale .largest) in
-    Kept domain mark eval budget (rounds domain mark eval 32 1 (held₀ .nudged) (held₀ .x) (held₀ .y) (held₀ .jet)) held taken
+Inv-loop accepted ku kv controls weights mark budget held₀ taken₀ held taken =
+    let eval = evaluateBy (surface (accepted .shape) ku kv controls weights) (accepted .largest) in
+    Kept (accepted .domain) mark eval budget (rounds (accepted .domain) mark eval 32 1 held₀) held taken
 
 abbrev μ-loop : tie.MeasureT-loop
-μ-loop shape ku kv controls weights scale domain mark budget held₀ taken₀ held taken = 33 - taken
+μ-loop accepted ku kv controls weights mark budget held₀ taken₀ held taken = 33 - taken
 
 loop-holds : tie.Need-loop-holds Inv-loop μ-loop
 loop-holds c =
     let from = c .before .before .before .before in
-    (omega arith, from .pre .2, from .pre .1, refl)
+    (omega arith, from .pre .1, refl)
 
 round-requires : tie.Need-round-requires Inv-loop μ-loop
 round-requires c κs =
     let at = c .before in
-    (at .before .before .before .before .before .pre .0, at .loop .inv .2, at .loop .inv .1)
-
-enum-known-outcome : tie.Need-enum-known-outcome Inv-loop μ-loop
-enum-known-outcome c = search needs
-
-enum-known-next : tie.Need-enum-known-next Inv-loop μ-loop
-enum-known-next c = search needs
-
-add-taken : tie.Need-add-taken Inv-loop μ-loop
-add-taken c = search needs
-
-loop-less : tie.Need-loop-less Inv-loop μ-loop
-loop-less c = search needs
+    (at .before .before .before .before .before .pre .0, at .loop .inv .1)
 
 loop-again : tie.Need-loop-again Inv-loop μ-loop
 loop-again c =
@@ -46,7 +34,9 @@ loop-again c =
     goes _ _ _ _ _ (at .loop .held) _ (at .loop .inv) (omega (arith, at .loop .inv .0, to .before .if1 .left)) (to .round .ensures) _ (c .before .next .given .1)
 
 returns : tie.Need-returns Inv-loop μ-loop
-returns c = full _ _ _ _ _ (c .before .loop .held) _ (c .before .loop .inv) (omega (arith, c .if1 .taken))
+returns c =
+    let at = c .before .before in
+    full _ _ _ _ _ (at .loop .held) _ (at .loop .inv) (omega (arith, c .before .if1 .taken))
 
 returns-2 : tie.Need-returns-2 Inv-loop μ-loop
 returns-2 c =
@@ -62,10 +52,10 @@ rounds-spec =
     μ-loop
     loop-holds
     round-requires
-    enum-known-outcome
-    enum-known-next
-    add-taken
-    loop-less
+    (λ c. search needs)
+    (λ c. search needs)
+    (λ c. search needs)
+    (λ c. search needs)
     loop-again
     returns
     returns-2)

@@ -3,10 +3,10 @@ use Rattle.patch.proofs.jet_if.Statement.{statement}
 use Rattle.patch.proofs.jet_if.Tie as tie
 
 returns : tie.Need-returns
-returns c = rw (c .before .if1 .taken, c .jet-of .ensures)
+returns c = rw (c .if1 .taken)
 
 returns-2 : tie.Need-returns-2
 returns-2 c = rw (c .if1 .left)
 
 pub jet-if-spec : {M : Type 1} → statement M
-jet-if-spec = tie.close (tie.spec (λ c κs. tt) returns returns-2)
+jet-if-spec = tie.close (tie.spec returns returns-2)

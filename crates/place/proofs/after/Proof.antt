@@ -27,11 +27,8 @@ returns-3 : tie.Need-returns-3
 unfolding afterRead
 returns-3 c = simp (c .before .if1 .left, c .if3 .taken)
 
-add-t7 : tie.Need-add-t7
-add-t7 c = search needs
-
 returns-4 : tie.Need-returns-4
 returns-4 c = more-came _ _ _ _ (c .before .if1 .left) (λ z. omega (arith, z))
 
 pub after-spec : {M : Type 1} → statement M
-after-spec = tie.close (tie.spec returns returns-2 returns-3 add-t7 returns-4)
+after-spec = tie.close (tie.spec returns returns-2 returns-3 (λ c. search needs) returns-4)

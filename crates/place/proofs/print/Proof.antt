@@ -4,9 +4,6 @@ use borrow.Author.Needs.{needs}
 use Rattle.place.proofs.print.Statement.{statement}
 use Rattle.place.proofs.print.Tie as tie
 
-job-requires : tie.Need-job-requires
-job-requires c κs = search needs
-
 array-share-prefix-out : tie.Need-array-share-prefix-out
 array-share-prefix-out c = front-inside _ _ (c .job .ensures)
 
@@ -16,8 +13,5 @@ slice-aggregate-write c = front-length _ _ (c .before .job .ensures)
 write-requires : tie.Need-write-requires
 write-requires c κs = front _ _ (c .before .job .ensures)
 
-returns : tie.Need-returns
-returns c = search needs
-
 pub print-spec : {M : Type 1} → statement M
-print-spec = tie.close (tie.spec job-requires array-share-prefix-out slice-aggregate-write write-requires returns)
+print-spec = tie.close (tie.spec (λ c κs. search needs) array-share-prefix-out slice-aggregate-write write-requires (λ c. search needs))

@@ -6,40 +6,28 @@ use borrow.Author.Needs.{needs}
 use Rattle.placing.proofs.placing_evaluate.Statement.{statement}
 use Rattle.placing.proofs.placing_evaluate.Tie as tie
 
-fits-jet-requires : tie.Need-fits-jet-requires
-fits-jet-requires c κs = search needs
-
 returns : tie.Need-returns
 unfolding evaluates
 returns c = jet-unfit _ _ (c .before .fits-jet .ensures) (not-true _ (c .if1 .taken))
 
-shape-of-requires : tie.Need-shape-of-requires
-shape-of-requires c κs = search needs
-
-evaluate-requires : tie.Need-evaluate-requires
-evaluate-requires c κs = search needs
-
 lay-jet-requires : tie.Need-lay-jet-requires
 lay-jet-requires c κs = let el = c .before .before .before in jet-room _ _ (el .before .fits-jet .ensures) (not-false _ (el .if1 .left))
-
-same-length : tie.Need-same-length
-same-length c = search needs
 
 returns-2 : tie.Need-returns-2
 unfolding evaluates
 returns-2 c =
     let to = c .before .before .before .before in
     let at = to .before .before in
-    jet-fit _ _ (at .before .fits-jet .ensures) (not-false _ (at .if1 .left)) (evaluated-by _ _ _ _ _ _ (to .before .shape-of .ensures) (to .evaluate .ensures)) (c .before .before .lay-jet .ensures)
+    jet-fit _ _ (at .before .fits-jet .ensures) (not-false _ (at .if1 .left)) (evaluated-by _ _ _ _ (to .before .shape-of .ensures) _ _ (to .evaluate .ensures)) (c .before .before .lay-jet .ensures)
 
 pub placing-evaluate-spec : {M : Type 1} → statement M
 placing-evaluate-spec =
     tie.close
     (tie.spec
-    fits-jet-requires
+    (λ c κs. search needs)
     returns
-    shape-of-requires
-    evaluate-requires
+    (λ c κs. search needs)
+    (λ c κs. search needs)
     lay-jet-requires
-    same-length
+    (λ c. search needs)
     returns-2)

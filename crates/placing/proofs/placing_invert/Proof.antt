@@ -1,74 +1,53 @@
+use mathlib.Core.Path.{ap, _∙_}
 use borrow.Author.Tests.{not-true, not-false}
+use Rattle.inverter.specs.PlacingLaws.{placed-sound}
+use Rattle.lent.specs.Lent.{answerOfPlacing}
 use Rattle.lent.specs.FitLaws.{inversion-room}
 use Rattle.placing.specs.Boundary.{inverts}
-use Rattle.placing.proofs.Steps.{took, placed-by, unfit, fits}
-use Rattle.row.specs.RowLaws.{placed-taken}
+use Rattle.placing.proofs.Steps.{placed-by, took-placing, unfit, fits}
 use borrow.Author.Needs.{needs}
 use Rattle.placing.proofs.placing_invert.Statement.{statement}
 use Rattle.placing.proofs.placing_invert.Tie as tie
-
-fits-inversion-requires : tie.Need-fits-inversion-requires
-fits-inversion-requires c κs = search needs
 
 returns : tie.Need-returns
 unfolding inverts
 returns c = let ro = c .before in unfit _ _ _ (ro .fits-inversion .ensures) (not-true _ (c .if1 .taken))
 
-shape-of-requires : tie.Need-shape-of-requires
-shape-of-requires c κs = search needs
-
-hint-of-requires : tie.Need-hint-of-requires
-hint-of-requires c κs = search needs
-
-period-of-requires : tie.Need-period-of-requires
-period-of-requires c κs = search needs
-
-period-of-requires-2 : tie.Need-period-of-requires-2
-period-of-requires-2 c κs = search needs
-
 slice-read-invert : tie.Need-slice-read-invert
-slice-read-invert c = let el = c .before .before .before .before .before in inversion-room _ _ _ _ _ _ (el .before .fits-inversion .ensures) (not-false _ (el .if1 .left)) .0
+slice-read-invert c = let el = c .before .before .before in inversion-room _ _ _ _ _ _ (el .before .fits-inversion .ensures) (not-false _ (el .if1 .left)) .0
 
-invert-requires : tie.Need-invert-requires
-invert-requires c κs = search needs
-
-lay-placing-requires : tie.Need-lay-placing-requires
-lay-placing-requires c κs =
-    let to = c .before .before in
-    let el = to .before .before .before .before .before .before in
+lay-answer-requires : tie.Need-lay-answer-requires
+lay-answer-requires c κs =
+    let an = c .before .before in
+    let to = an .before in
+    let el = to .before .before .before .before in
     let r = inversion-room _ _ _ _ _ _ (el .before .fits-inversion .ensures) (not-false _ (el .if1 .left)) in
-    (r .0, r .1, took (to .invert .ensures) (placed-taken _ _ _ _ _ _ _))
-
-same-length : tie.Need-same-length
-same-length c = search needs
-
-same-length-2 : tie.Need-same-length-2
-same-length-2 c = search needs
+    (r .0, r .1, took-placing (an .answer-of-placing .ensures) (to .invert .ensures) (placed-sound _ _ _ _ .0))
 
 returns-2 : tie.Need-returns-2
 unfolding inverts
 returns-2 c =
     let la = c .before .before .before .before in
-    let to = la .before .before .before in
-    let pe = to .before .before in
-    let sh = pe .before .before .before in
+    let an = la .before .before .before in
+    let to = an .before in
+    let te = to .before .before in
+    let sh = te .before in
     let el = sh .before in
-    let ro = el .before in
-    fits _ _ _ (ro .fits-inversion .ensures) (not-false _ (el .if1 .left)) (placed-by _ _ _ _ _ _ _ (sh .shape-of .ensures) (pe .before .before .hint-of .ensures) (pe .before .period-of .ensures) (pe .period-of2 .ensures) (to .invert .ensures)) (la .lay-placing .ensures)
+    fits _ _ _ (el .before .fits-inversion .ensures) (not-false _ (el .if1 .left))
+    (an .answer-of-placing .ensures ∙ ap answerOfPlacing (placed-by _ _ _ _ (sh .shape-of .ensures) (te .terms-of .ensures) _ _ (to .invert .ensures))) (la .lay-answer .ensures)
 
 pub placing-invert-spec : {M : Type 1} → statement M
 placing-invert-spec =
     tie.close
     (tie.spec
-    fits-inversion-requires
+    (λ c κs. search needs)
     returns
-    shape-of-requires
-    hint-of-requires
-    period-of-requires
-    period-of-requires-2
+    (λ c κs. search needs)
+    (λ c κs. search needs)
     slice-read-invert
-    invert-requires
-    lay-placing-requires
-    same-length
-    same-length-2
+    (λ c κs. search needs)
+    (λ c κs. search needs)
+    lay-answer-requires
+    (λ c. search needs)
+    (λ c. search needs)
     returns-2)

@@ -8,15 +8,9 @@ use borrow.Author.Needs.{needs}
 use Rattle.placing.proofs.placing_job.Statement.{statement}
 use Rattle.placing.proofs.placing_job.Tie as tie
 
-fits-job-requires : tie.Need-fits-job-requires
-fits-job-requires c κs = search needs
-
 returns : tie.Need-returns
 unfolding prints
 returns c = job-unfit _ _ _ (c .before .fits-job .ensures) (not-true _ (c .if1 .taken))
-
-job-requires : tie.Need-job-requires
-job-requires c κs = search needs
 
 array-share-prefix-text : tie.Need-array-share-prefix-text
 array-share-prefix-text c = front-inside _ _ (c .job .ensures)
@@ -31,12 +25,6 @@ lay-printout-requires c κs =
     let r = job-room _ _ (el .before .fits-job .ensures) (not-false _ (el .if1 .left)) in
     (omega (arith, front-length _ _ (jo .job .ensures), jo .job .ensures .1 .1, r .0), r .1)
 
-same-length : tie.Need-same-length
-same-length c = search needs
-
-same-length-2 : tie.Need-same-length-2
-same-length-2 c = search needs
-
 returns-2 : tie.Need-returns-2
 unfolding prints
 returns-2 c =
@@ -49,12 +37,12 @@ pub placing-job-spec : {M : Type 1} → statement M
 placing-job-spec =
     tie.close
     (tie.spec
-    fits-job-requires
+    (λ c κs. search needs)
     returns
-    job-requires
+    (λ c κs. search needs)
     array-share-prefix-text
     slice-aggregate-lay-printout
     lay-printout-requires
-    same-length
-    same-length-2
+    (λ c. search needs)
+    (λ c. search needs)
     returns-2)

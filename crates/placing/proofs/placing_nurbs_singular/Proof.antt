@@ -6,30 +6,15 @@ use borrow.Author.Needs.{needs}
 use Rattle.placing.proofs.placing_nurbs_singular.Statement.{statement}
 use Rattle.placing.proofs.placing_nurbs_singular.Tie as tie
 
-fits-edges-requires : tie.Need-fits-edges-requires
-fits-edges-requires c κs = search needs
-
 returns : tie.Need-returns
 unfolding tells
 returns c = let ro = c .before in edges-unfit _ _ _ (ro .fits-edges .ensures) (not-true _ (c .if1 .taken))
-
-shape-of-requires : tie.Need-shape-of-requires
-shape-of-requires c κs = search needs
-
-nurbs-singular-requires : tie.Need-nurbs-singular-requires
-nurbs-singular-requires c κs = search needs
 
 lay-edges-requires : tie.Need-lay-edges-requires
 lay-edges-requires c κs =
     let el = c .before .before .before .before in
     let ro = el .before in
     edges-room _ _ _ (ro .fits-edges .ensures) (not-false _ (el .if1 .left))
-
-same-length : tie.Need-same-length
-same-length c = search needs
-
-same-length-2 : tie.Need-same-length-2
-same-length-2 c = search needs
 
 returns-2 : tie.Need-returns-2
 unfolding tells
@@ -39,17 +24,17 @@ returns-2 c =
     let sh = to .before in
     let el = sh .before in
     let ro = el .before in
-    edges-fit _ _ _ (ro .fits-edges .ensures) (not-false _ (el .if1 .left)) (singular-by _ _ _ _ _ (sh .shape-of .ensures) (to .nurbs-singular .ensures)) (la .lay-edges .ensures)
+    edges-fit _ _ _ (ro .fits-edges .ensures) (not-false _ (el .if1 .left)) (singular-by _ _ _ _ (sh .shape-of .ensures) _ (to .nurbs-singular .ensures)) (la .lay-edges .ensures)
 
 pub placing-nurbs-singular-spec : {M : Type 1} → statement M
 placing-nurbs-singular-spec =
     tie.close
     (tie.spec
-    fits-edges-requires
+    (λ c κs. search needs)
     returns
-    shape-of-requires
-    nurbs-singular-requires
+    (λ c κs. search needs)
+    (λ c κs. search needs)
     lay-edges-requires
-    same-length
-    same-length-2
+    (λ c. search needs)
+    (λ c. search needs)
     returns-2)

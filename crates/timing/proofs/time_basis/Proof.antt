@@ -22,21 +22,9 @@ module _ (p : ℕ) (b : Basis) {s : Sample} (e : shown p b ≡ s) where
   unfolding shown threes ofSample
   present f = sym (ap ofSample (sym e) ∙ simp f)
 
-basis-on-side-requires : tie.Need-basis-on-side-requires
-basis-on-side-requires c κs = search needs
-
 returns : tie.Need-returns
 unfolding ofBits div
 returns c = absent _ (c .before .basis-on-side .result) (c .before .basis-on-side .ensures) (not-true _ (c .if1 .taken))
-
-element-copy-out-result : tie.Need-element-copy-out-result
-element-copy-out-result c = search needs
-
-element-copy-out-result-2 : tie.Need-element-copy-out-result-2
-element-copy-out-result-2 c = search needs
-
-element-copy-out-result-3 : tie.Need-element-copy-out-result-3
-element-copy-out-result-3 c = search needs
 
 returns-2 : tie.Need-returns-2
 returns-2 c =
@@ -47,9 +35,9 @@ pub time-basis-spec : {M : Type 1} → statement M
 time-basis-spec =
     tie.close
     (tie.spec
-    basis-on-side-requires
+    (λ c κs. search needs)
     returns
-    element-copy-out-result
-    element-copy-out-result-2
-    element-copy-out-result-3
+    (λ c. search needs)
+    (λ c. search needs)
+    (λ c. search needs)
     returns-2)

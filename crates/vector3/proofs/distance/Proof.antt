@@ -5,15 +5,9 @@ use Rattle.vector3.specs.Vector3.{norm, distance}
 use Rattle.vector3.proofs.distance.Statement.{statement}
 use Rattle.vector3.proofs.distance.Tie as tie
 
-sub-requires : tie.Need-sub-requires
-sub-requires c κs = search needs
-
-norm-requires : tie.Need-norm-requires
-norm-requires c κs = search needs
-
 returns : tie.Need-returns
 unfolding distance
 returns c = c .norm .ensures ∙ ap norm (c .before .sub .ensures)
 
 pub distance-spec : {M : Type 1} → statement M
-distance-spec = tie.close (tie.spec sub-requires norm-requires returns)
+distance-spec = tie.close (tie.spec (λ c κs. search needs) (λ c κs. search needs) returns)

@@ -6,15 +6,9 @@ use Rattle.vector3.specs.Vector3.{norm}
 use Rattle.vector3.proofs.norm.Statement.{statement}
 use Rattle.vector3.proofs.norm.Tie as tie
 
-dot-requires : tie.Need-dot-requires
-dot-requires c κs = search needs
-
-root-requires : tie.Need-root-requires
-root-requires c κs = search needs
-
 returns : tie.Need-returns
 unfolding norm
 returns c = c .root .ensures ∙ ap root (c .before .dot .ensures)
 
 pub norm-spec : {M : Type 1} → statement M
-norm-spec = tie.close (tie.spec dot-requires root-requires returns)
+norm-spec = tie.close (tie.spec (λ c κs. search needs) (λ c κs. search needs) returns)

@@ -13,9 +13,6 @@ the-nan nan e = refl
 the-nan (inf s) e = cc
 the-nan (fin s m k) e = cc
 
-is-nan-requires : tie.Need-is-nan-requires
-is-nan-requires c κs = search needs
-
 returns : tie.Need-returns
 unfolding div ofBits
 returns c = the-nan _ (sym (nanBits-is binary64 _) ∙ sym (c .before .is-nan .ensures) ∙ c .if1 .taken)
@@ -23,8 +20,5 @@ returns c = the-nan _ (sym (nanBits-is binary64 _) ∙ sym (c .before .is-nan .e
 float-from-bits-result : tie.Need-float-from-bits-result
 float-from-bits-result c = rw (← c .before .is-nan .ensures, c .if1 .left) tt
 
-returns-2 : tie.Need-returns-2
-returns-2 c = search needs
-
 pub float-spec : {M : Type 1} → statement M
-float-spec = tie.close (tie.spec is-nan-requires returns float-from-bits-result returns-2)
+float-spec = tie.close (tie.spec (λ c κs. search needs) returns float-from-bits-result (λ c. search needs))

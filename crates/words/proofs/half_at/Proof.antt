@@ -13,21 +13,6 @@ pairs : (bytes : List ℕ) (at : ℕ) → littleEndian 4 bytes at ≡ littleEndi
 unfolding littleEndian
 pairs bytes at = simp (add-assoc, add-zero) (omega arith)
 
-pair-at-requires : tie.Need-pair-at-requires
-pair-at-requires c κs = search needs
-
-add-pair-at : tie.Need-add-pair-at
-add-pair-at c = search needs
-
-pair-at-requires-2 : tie.Need-pair-at-requires-2
-pair-at-requires-2 c κs = search needs
-
-mul-result : tie.Need-mul-result
-mul-result c = search needs
-
-add-result : tie.Need-add-result
-add-result c = search needs
-
 returns : tie.Need-returns
 returns c =
     let e = pairs (c .before .before .before .args .bytes .now) (c .before .before .before .args .at) in
@@ -36,4 +21,4 @@ returns c =
 pub half-at-spec : {M : Type 1} → statement M
 half-at-spec =
     tie.close
-    (tie.spec pair-at-requires add-pair-at pair-at-requires-2 mul-result add-result returns)
+    (tie.spec (λ c κs. search needs) (λ c. search needs) (λ c κs. search needs) (λ c. search needs) (λ c. search needs) returns)

@@ -13,25 +13,10 @@ halves : (bytes : List ℕ) (at : ℕ) → littleEndian 8 bytes at ≡ littleEnd
 unfolding littleEndian
 halves bytes at = simp (add-assoc, add-zero) (omega arith)
 
-half-at-requires : tie.Need-half-at-requires
-half-at-requires c κs = search needs
-
-add-half-at : tie.Need-add-half-at
-add-half-at c = search needs
-
-half-at-requires-2 : tie.Need-half-at-requires-2
-half-at-requires-2 c κs = search needs
-
-mul-result : tie.Need-mul-result
-mul-result c = search needs
-
-add-result : tie.Need-add-result
-add-result c = search needs
-
 returns : tie.Need-returns
 returns c = omega (arith, halves (c .before .before .before .args .bytes .now) (c .before .before .before .args .at))
 
 pub word-at-spec : {M : Type 1} → statement M
 word-at-spec =
     tie.close
-    (tie.spec half-at-requires add-half-at half-at-requires-2 mul-result add-result returns)
+    (tie.spec (λ c κs. search needs) (λ c. search needs) (λ c κs. search needs) (λ c. search needs) (λ c. search needs) returns)

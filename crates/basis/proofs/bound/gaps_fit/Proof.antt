@@ -15,32 +15,8 @@ Inv-loop knots all₀ i₀ i-end all i = (i + 1 ≤ length knots) × (i-end + 1 
 abbrev μ-loop : tie.MeasureT-loop
 μ-loop knots all₀ i₀ i-end all i = length knots - i
 
-sub-i-end : tie.Need-sub-i-end Inv-loop μ-loop
-sub-i-end c = search needs
-
 loop-holds : tie.Need-loop-holds Inv-loop μ-loop
 loop-holds c = (omega arith, omega arith, refl)
-
-mul-k : tie.Need-mul-k Inv-loop μ-loop
-mul-k c = search needs
-
-shared-slice-read-k : tie.Need-shared-slice-read-k Inv-loop μ-loop
-shared-slice-read-k c = search needs
-
-add-l : tie.Need-add-l Inv-loop μ-loop
-add-l c = search needs
-
-mul-l : tie.Need-mul-l Inv-loop μ-loop
-mul-l c = search needs
-
-shared-slice-read-l : tie.Need-shared-slice-read-l Inv-loop μ-loop
-shared-slice-read-l c = search needs
-
-add-i : tie.Need-add-i Inv-loop μ-loop
-add-i c = search needs
-
-loop-less : tie.Need-loop-less Inv-loop μ-loop
-loop-less c = search needs
 
 loop-again : tie.Need-loop-again Inv-loop μ-loop
 loop-again c = let l = c .before .before .before .loop in (omega arith, omega arith, gaps-more _ (l .i) (l .all) (l .inv .2) (omega arith))
@@ -54,14 +30,14 @@ gaps-fit-spec =
     (tie.spec
     Inv-loop
     μ-loop
-    sub-i-end
+    (λ c. search needs)
     loop-holds
-    mul-k
-    shared-slice-read-k
-    add-l
-    mul-l
-    shared-slice-read-l
-    add-i
-    loop-less
+    (λ c. search needs)
+    (λ c. search needs)
+    (λ c. search needs)
+    (λ c. search needs)
+    (λ c. search needs)
+    (λ c. search needs)
+    (λ c. search needs)
     loop-again
     returns)

@@ -25,9 +25,6 @@ int-to-float-n : tie.Need-int-to-float-n Inv-loop μ-loop
 unfolding inFloat
 int-to-float-n c = le→leb (c .before .before .args .p) (2 ^ 53) (omega arith)
 
-absent-requires : tie.Need-absent-requires Inv-loop μ-loop
-absent-requires c κs = search needs
-
 loop-holds : tie.Need-loop-holds Inv-loop μ-loop
 loop-holds c =
     let at = c .before .before .before in (
@@ -36,42 +33,6 @@ loop-holds c =
       firsts-begin _ _ _ _ _ (at .pre .5),
       skip-first _ _ _ _ (at .pre .1) _ _ (omega arith) (omega arith) _ _ _ (omega arith) (at .pre .4) (c .absent .ensures),
     )
-
-add-k : tie.Need-add-k Inv-loop μ-loop
-add-k c = search needs
-
-add-term-at : tie.Need-add-term-at Inv-loop μ-loop
-add-term-at c = search needs
-
-mul-term-at : tie.Need-mul-term-at Inv-loop μ-loop
-mul-term-at c = search needs
-
-element-copy-out-term-at : tie.Need-element-copy-out-term-at Inv-loop μ-loop
-element-copy-out-term-at c = search needs
-
-term-at-requires : tie.Need-term-at-requires Inv-loop μ-loop
-term-at-requires c κs = search needs
-
-mix-requires : tie.Need-mix-requires Inv-loop μ-loop
-mix-requires c κs = search needs
-
-mul-values : tie.Need-mul-values Inv-loop μ-loop
-mul-values c = search needs
-
-element-write-values : tie.Need-element-write-values Inv-loop μ-loop
-element-write-values c = search needs
-
-mul-firsts : tie.Need-mul-firsts Inv-loop μ-loop
-mul-firsts c = search needs
-
-element-write-firsts : tie.Need-element-write-firsts Inv-loop μ-loop
-element-write-firsts c = search needs
-
-add-j : tie.Need-add-j Inv-loop μ-loop
-add-j c = search needs
-
-loop-less : tie.Need-loop-less Inv-loop μ-loop
-loop-less c = search needs
 
 loop-again : tie.Need-loop-again Inv-loop μ-loop
 unfolding ofInt ofNat
@@ -84,24 +45,6 @@ loop-again c =
       firsts-go _ _ _ _ (start .pre .1) _ _ (omega arith) (omega arith) (start .pre .3) _ _ _ _ _ (at .loop .inv .1) (omega arith) (omega arith) (at .loop .inv .3) (itself b) (c .mix .ensures) _ _ (at .loop .inv .2),
       carried _ _ (start .args .p) _ _ _ (at .loop .values) (c .mix .result .value) _ b,
     )
-
-absent-requires-2 : tie.Need-absent-requires-2 Inv-loop μ-loop
-absent-requires-2 c κs = search needs
-
-mix-requires-2 : tie.Need-mix-requires-2 Inv-loop μ-loop
-mix-requires-2 c κs = search needs
-
-mul-values-2 : tie.Need-mul-values-2 Inv-loop μ-loop
-mul-values-2 c = search needs
-
-element-write-values-2 : tie.Need-element-write-values-2 Inv-loop μ-loop
-element-write-values-2 c = search needs
-
-mul-firsts-2 : tie.Need-mul-firsts-2 Inv-loop μ-loop
-mul-firsts-2 c = search needs
-
-element-write-firsts-2 : tie.Need-element-write-firsts-2 Inv-loop μ-loop
-element-write-firsts-2 c = search needs
 
 returns : tie.Need-returns Inv-loop μ-loop
 returns c =
@@ -118,25 +61,25 @@ raise-both-spec =
     Inv-loop
     μ-loop
     int-to-float-n
-    absent-requires
+    (λ c κs. search needs)
     loop-holds
-    add-k
-    add-term-at
-    mul-term-at
-    element-copy-out-term-at
-    term-at-requires
-    mix-requires
-    mul-values
-    element-write-values
-    mul-firsts
-    element-write-firsts
-    add-j
-    loop-less
+    (λ c. search needs)
+    (λ c. search needs)
+    (λ c. search needs)
+    (λ c. search needs)
+    (λ c κs. search needs)
+    (λ c κs. search needs)
+    (λ c. search needs)
+    (λ c. search needs)
+    (λ c. search needs)
+    (λ c. search needs)
+    (λ c. search needs)
+    (λ c. search needs)
     loop-again
-    absent-requires-2
-    mix-requires-2
-    mul-values-2
-    element-write-values-2
-    mul-firsts-2
-    element-write-firsts-2
+    (λ c κs. search needs)
+    (λ c κs. search needs)
+    (λ c. search needs)
+    (λ c. search needs)
+    (λ c. search needs)
+    (λ c. search needs)
     returns)

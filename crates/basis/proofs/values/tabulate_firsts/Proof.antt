@@ -12,12 +12,6 @@ use Rattle.basis.proofs.values.tabulate_firsts.Tie as tie
 snap-on-requires : tie.Need-snap-on-requires
 snap-on-requires c κs = c .before .pre .0
 
-enum-known-t : tie.Need-enum-known-t
-enum-known-t c = search needs
-
-enum-told : tie.Need-enum-told
-enum-told c = search needs
-
 returns : tie.Need-returns
 unfolding shownPart partOf
 returns c =
@@ -71,8 +65,8 @@ tabulate-firsts-spec =
     tie.close
     (tie.spec
     snap-on-requires
-    enum-known-t
-    enum-told
+    (λ c. search needs)
+    (λ c. search needs)
     returns
     first-at-requires
     sub-triangle-of-values

@@ -14,12 +14,6 @@ Inv-loop knots start p to u values₀ d₀ values d = (d ≤ to) × Row values (
 abbrev μ-loop : tie.MeasureT-loop
 μ-loop knots start p to u values₀ d₀ values d = to - d
 
-mul-values : tie.Need-mul-values Inv-loop μ-loop
-mul-values c = search needs
-
-element-write-values : tie.Need-element-write-values Inv-loop μ-loop
-element-write-values c = search needs
-
 loop-holds : tie.Need-loop-holds Inv-loop μ-loop
 loop-holds c = (omega arith, begin-row _ _ _ _ _ (c .before .pre .0) (c .before .pre .4))
 
@@ -27,15 +21,6 @@ raise-values-requires : tie.Need-raise-values-requires Inv-loop μ-loop
 raise-values-requires c κs =
     let at = c .before .before in
     (omega arith, omega arith, omega arith, at .before .before .pre .3, at .loop .inv .1)
-
-add-d : tie.Need-add-d Inv-loop μ-loop
-add-d c = search needs
-
-loop-less : tie.Need-loop-less Inv-loop μ-loop
-loop-less c = search needs
-
-loop-again : tie.Need-loop-again Inv-loop μ-loop
-loop-again c = search needs
 
 returns : tie.Need-returns Inv-loop μ-loop
 returns c =
@@ -49,11 +34,11 @@ triangle-of-values-spec =
     (tie.spec
     Inv-loop
     μ-loop
-    mul-values
-    element-write-values
+    (λ c. search needs)
+    (λ c. search needs)
     loop-holds
     raise-values-requires
-    add-d
-    loop-less
-    loop-again
+    (λ c. search needs)
+    (λ c. search needs)
+    (λ c. search needs)
     returns)

@@ -3,15 +3,9 @@ use borrow.Author.Needs.{needs}
 use Rattle.chart.proofs.search.sound.Statement.{statement}
 use Rattle.chart.proofs.search.sound.Tie as tie
 
-finite-vector-requires : tie.Need-finite-vector-requires
-finite-vector-requires c κs = search needs
-
-sound-terms-requires : tie.Need-sound-terms-requires
-sound-terms-requires c κs = search needs
-
 returns : tie.Need-returns
 unfolding soundSearch
 returns c = rw (c .before .finite-vector .ensures, c .sound-terms .ensures)
 
 pub sound-spec : {M : Type 1} → statement M
-sound-spec = tie.close (tie.spec finite-vector-requires sound-terms-requires returns)
+sound-spec = tie.close (tie.spec (λ c κs. search needs) (λ c κs. search needs) returns)

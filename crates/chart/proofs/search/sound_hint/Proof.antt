@@ -3,18 +3,6 @@ use borrow.Author.Needs.{needs}
 use Rattle.chart.proofs.search.sound_hint.Statement.{statement}
 use Rattle.chart.proofs.search.sound_hint.Tie as tie
 
-enum-told : tie.Need-enum-told
-enum-told c = search needs
-
-enum-known-hint : tie.Need-enum-known-hint
-enum-known-hint c = search needs
-
-is-finite-requires : tie.Need-is-finite-requires
-is-finite-requires c κs = search needs
-
-is-finite-requires-2 : tie.Need-is-finite-requires-2
-is-finite-requires-2 c κs = search needs
-
 returns : tie.Need-returns
 unfolding soundHint
 returns c = simp (c .enum-told .given .1)
@@ -26,4 +14,4 @@ returns-2 c = simp (c .before .before .before .hint .given .1, c .before .is-fin
 pub sound-hint-spec : {M : Type 1} → statement M
 sound-hint-spec =
     tie.close
-    (tie.spec enum-told enum-known-hint is-finite-requires is-finite-requires-2 returns returns-2)
+    (tie.spec (λ c. search needs) (λ c. search needs) (λ c κs. search needs) (λ c κs. search needs) returns returns-2)

@@ -23,9 +23,6 @@ returns c = nan-stays _ (c .if1 .taken)
 float-to-bits-bits : tie.Need-float-to-bits-bits
 float-to-bits-bits c = not-nan _ (c .if1 .left)
 
-sub-result : tie.Need-sub-result
-sub-result c = search needs
-
 whole-requires : tie.Need-whole-requires
 whole-requires c κs = magnitude-le _ (search needs) (not-nan _ (c .if1 .left))
 
@@ -47,7 +44,7 @@ round-spec =
     (tie.spec
     returns
     float-to-bits-bits
-    sub-result
+    (λ c. search needs)
     whole-requires
     add-result
     float-from-bits-result

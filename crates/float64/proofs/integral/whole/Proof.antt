@@ -24,32 +24,14 @@ shifts b t h l =
 returns : tie.Need-returns
 returns c = rounded _ _ (omega arith) (λ n w. below-half w (search needs))
 
-mul-result : tie.Need-mul-result
-mul-result c = search needs
-
 returns-2 : tie.Need-returns-2
 returns-2 c = rounded _ _ (omega arith) (λ n w. to-one w (search needs))
 
 returns-3 : tie.Need-returns-3
 returns-3 c = rounded-large _ (search needs) (search needs)
 
-sub-below : tie.Need-sub-below
-sub-below c = search needs
-
-sub-half : tie.Need-sub-half
-sub-half c = search needs
-
-shl-half : tie.Need-shl-half
-shl-half c = search needs
-
 add-result : tie.Need-add-result
 add-result c = record { fits = sum-fits _ _ (search needs) (omega arith) }
-
-shr-result : tie.Need-shr-result
-shr-result c = search needs
-
-shl-result : tie.Need-shl-result
-shl-result c = search needs
 
 returns-4 : tie.Need-returns-4
 returns-4 c = shifts _ _ (search needs) (omega arith) ∙ rounded _ _ (omega arith) (λ n w. cut-off w _ (omega arith) (omega arith) (omega arith))
@@ -59,13 +41,13 @@ whole-spec =
     tie.close
     (tie.spec
     returns
-    mul-result
+    (λ c. search needs)
     returns-2
     returns-3
-    sub-below
-    sub-half
-    shl-half
+    (λ c. search needs)
+    (λ c. search needs)
+    (λ c. search needs)
     add-result
-    shr-result
-    shl-result
+    (λ c. search needs)
+    (λ c. search needs)
     returns-4)

@@ -11,30 +11,6 @@ use Rattle.float64.proofs.remainder.of_sizes.Tie as tie
 returns : tie.Need-returns
 returns c = itself _ _ (c .if1 .taken)
 
-zeros-requires : tie.Need-zeros-requires
-zeros-requires c κs = search needs
-
-zeros-requires-2 : tie.Need-zeros-requires-2
-zeros-requires-2 c κs = search needs
-
-mul-reduced : tie.Need-mul-reduced
-mul-reduced c = search needs
-
-sub-reduced : tie.Need-sub-reduced
-sub-reduced c = search needs
-
-sub-reduced-2 : tie.Need-sub-reduced-2
-sub-reduced-2 c = search needs
-
-mul-reduced-2 : tie.Need-mul-reduced-2
-mul-reduced-2 c = search needs
-
-sub-reduced-3 : tie.Need-sub-reduced-3
-sub-reduced-3 c = search needs
-
-reduced-requires : tie.Need-reduced-requires
-reduced-requires c κs = search needs
-
 pattern-requires : tie.Need-pattern-requires
 pattern-requires c κs = (rw (c .reduced .ensures) (lt-trans (mod-lt _ (omega arith)) (omega arith)), omega arith)
 
@@ -48,13 +24,13 @@ of-sizes-spec =
     tie.close
     (tie.spec
     returns
-    zeros-requires
-    zeros-requires-2
-    mul-reduced
-    sub-reduced
-    sub-reduced-2
-    mul-reduced-2
-    sub-reduced-3
-    reduced-requires
+    (λ c κs. search needs)
+    (λ c κs. search needs)
+    (λ c. search needs)
+    (λ c. search needs)
+    (λ c. search needs)
+    (λ c. search needs)
+    (λ c. search needs)
+    (λ c κs. search needs)
     pattern-requires
     returns-2)

@@ -15,25 +15,10 @@ fewer d z s h l = lt-of-le-of-lt (mul-le-mul-left d (pow-mono {i = z} {j = s} (o
 returns : tie.Need-returns
 returns c = none _ _ (omega arith)
 
-missing-requires : tie.Need-missing-requires
-missing-requires c κs = search needs
-
-shl-result : tie.Need-shl-result
-shl-result c = search needs
-
 returns-2 : tie.Need-returns-2
 returns-2 c =
     let l = fewer _ _ (c .before .missing .result) (c .if2 .taken) (c .before .missing .ensures .2) in
     placed _ _ _ _ (omega arith) l (inr (omega arith)) (omega arith)
-
-mul-result : tie.Need-mul-result
-mul-result c = search needs
-
-shl-result-2 : tie.Need-shl-result-2
-shl-result-2 c = search needs
-
-add-result : tie.Need-add-result
-add-result c = search needs
 
 returns-3 : tie.Need-returns-3
 returns-3 c =
@@ -45,10 +30,10 @@ pattern-spec =
     tie.close
     (tie.spec
     returns
-    missing-requires
-    shl-result
+    (λ c κs. search needs)
+    (λ c. search needs)
     returns-2
-    mul-result
-    shl-result-2
-    add-result
+    (λ c. search needs)
+    (λ c. search needs)
+    (λ c. search needs)
     returns-3)

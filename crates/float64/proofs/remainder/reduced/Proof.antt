@@ -14,29 +14,8 @@ Inv-loop digits zeros divisor rest₀ left₀ rest left = (rest < 2 ^ 53) × (re
 abbrev μ-loop : tie.MeasureT-loop
 μ-loop digits zeros divisor rest₀ left₀ rest left = left
 
-loop-holds : tie.Need-loop-holds Inv-loop μ-loop
-loop-holds c = search needs
-
-mul-rest : tie.Need-mul-rest Inv-loop μ-loop
-mul-rest c = search needs
-
-rem-rest : tie.Need-rem-rest Inv-loop μ-loop
-rem-rest c = search needs
-
-sub-left : tie.Need-sub-left Inv-loop μ-loop
-sub-left c = search needs
-
-loop-less : tie.Need-loop-less Inv-loop μ-loop
-loop-less c = search needs
-
 loop-again : tie.Need-loop-again Inv-loop μ-loop
 loop-again c = (lt-trans (mod-lt _ (omega arith)) (omega arith), turn _ _ _ (omega arith) ∙ c .before .loop .inv .1)
-
-shl-result : tie.Need-shl-result Inv-loop μ-loop
-shl-result c = search needs
-
-rem-result : tie.Need-rem-result Inv-loop μ-loop
-rem-result c = search needs
 
 returns : tie.Need-returns Inv-loop μ-loop
 returns c = last _ _ _ (omega arith) (omega arith) ∙ c .before .loop .inv .1
@@ -47,12 +26,12 @@ reduced-spec =
     (tie.spec
     Inv-loop
     μ-loop
-    loop-holds
-    mul-rest
-    rem-rest
-    sub-left
-    loop-less
+    (λ c. search needs)
+    (λ c. search needs)
+    (λ c. search needs)
+    (λ c. search needs)
+    (λ c. search needs)
     loop-again
-    shl-result
-    rem-result
+    (λ c. search needs)
+    (λ c. search needs)
     returns)

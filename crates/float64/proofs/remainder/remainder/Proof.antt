@@ -14,9 +14,6 @@ use Rattle.float64.proofs.RemainderOfBits.{not-finite, by-not-itself, b
 use Rattle.float64.proofs.remainder.remainder.Statement.{statement}
 use Rattle.float64.proofs.remainder.remainder.Tie as tie
 
-is-finite-requires : tie.Need-is-finite-requires
-is-finite-requires c κs = search needs
-
 returns : tie.Need-returns
 unfolding ofBits div
 returns c = not-finite _ _ (sym (c .before .is-finite .ensures) ∙ not-true _ (c .if1 .taken))
@@ -33,9 +30,6 @@ finite c = sym (c .before .is-finite .ensures) ∙ not-false _ (c .if1 .left)
 
 float-to-bits-bits : tie.Need-float-to-bits-bits
 float-to-bits-bits c = number _ (finite→number _ (finite (c .before .before)))
-
-sub-result : tie.Need-sub-result
-sub-result c = search needs
 
 float-to-bits-of-sizes : tie.Need-float-to-bits-of-sizes
 float-to-bits-of-sizes c = not-nan _ (c .before .if2 .left)
@@ -63,12 +57,12 @@ pub remainder-spec : {M : Type 1} → statement M
 remainder-spec =
     tie.close
     (tie.spec
-    is-finite-requires
+    (λ c κs. search needs)
     returns
     returns-2
     returns-3
     float-to-bits-bits
-    sub-result
+    (λ c. search needs)
     float-to-bits-of-sizes
     of-sizes-requires
     add-result

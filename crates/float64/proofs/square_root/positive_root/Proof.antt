@@ -13,26 +13,14 @@ float-to-bits-normalized c = not-nan (c .args .x) (c .pre)
 normalized-requires : tie.Need-normalized-requires
 normalized-requires c κs = pattern-bounds (c .args .x) (search needs) (c .pre)
 
-add-nearest-root : tie.Need-add-nearest-root
-add-nearest-root c = search needs
-
 mul-nearest-root : tie.Need-mul-nearest-root
 mul-nearest-root c = let n = c .before .before .normalized in omega (arith, lent (n .result .significand) (n .result .exponent) (n .ensures .short))
-
-guess-requires : tie.Need-guess-requires
-guess-requires c κs = search needs
 
 nearest-root-requires : tie.Need-nearest-root-requires
 nearest-root-requires c κs = let n = c .before .before .before .normalized in (lent (n .result .significand) (n .result .exponent) (n .ensures .short), search needs, search needs)
 
 given : (c : tie.After-nearest-root) → let at = c .before .before .before .before in Answer (toBits binary64 (at .before .args .x)) (at .normalized .result .significand) (at .normalized .result .exponent) (c .nearest-root .result) (root (at .before .args .x))
 given c = let at = c .before .before .before .before in answer (at .before .args .x) (c .nearest-root .result) (search needs) (at .before .pre) (at .normalized .ensures) (c .nearest-root .ensures)
-
-add-result : tie.Need-add-result
-add-result c = search needs
-
-mul-result : tie.Need-mul-result
-mul-result c = search needs
 
 add-result-2 : tie.Need-add-result-2
 add-result-2 c = omega (arith, given (c .before) .short)
@@ -49,12 +37,12 @@ positive-root-spec =
     (tie.spec
     float-to-bits-normalized
     normalized-requires
-    add-nearest-root
+    (λ c. search needs)
     mul-nearest-root
-    guess-requires
+    (λ c κs. search needs)
     nearest-root-requires
-    add-result
-    mul-result
+    (λ c. search needs)
+    (λ c. search needs)
     add-result-2
     float-from-bits-result
     returns)

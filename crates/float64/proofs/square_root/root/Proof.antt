@@ -16,12 +16,9 @@ positive-root-requires : tie.Need-positive-root-requires
 unfolding ofBits div
 positive-root-requires c κs = above-zero (c .before .before .before .args .x) (c .before .before .if1 .left) (c .before .if2 .left) (c .if3 .taken)
 
-returns-3 : tie.Need-returns-3
-returns-3 c = search needs
-
 returns-4 : tie.Need-returns-4
 unfolding ofBits div
 returns-4 c = other (c .before .before .before .args .x) (c .before .before .if1 .left) (c .if3 .left)
 
 pub root-spec : {M : Type 1} → statement M
-root-spec = tie.close (tie.spec returns returns-2 positive-root-requires returns-3 returns-4)
+root-spec = tie.close (tie.spec returns returns-2 positive-root-requires (λ c. search needs) returns-4)

@@ -22,15 +22,9 @@ add-t9 c = let p = parts (c .args .q) (c .pre) in omega arith
 add-t11 : tie.Need-add-t11
 add-t11 c = let p = parts (c .args .q) (c .pre) in omega arith
 
-mul-t13 : tie.Need-mul-t13
-mul-t13 c = search needs
-
-add-t15 : tie.Need-add-t15
-add-t15 c = search needs
-
 returns : tie.Need-returns
 returns c = let p = parts (c .args .q) (c .pre) in (omega arith, omega arith, omega arith)
 
 pub squared-spec : {M : Type 1} → statement M
 squared-spec =
-    tie.close (tie.spec mul-aa mul-ab mul-bb mul-t7 add-t9 add-t11 mul-t13 add-t15 returns)
+    tie.close (tie.spec mul-aa mul-ab mul-bb mul-t7 add-t9 add-t11 (λ c. search needs) (λ c. search needs) returns)

@@ -5,9 +5,6 @@ use borrow.Author.Needs.{needs}
 use Rattle.inverter.proofs.plane.invert_plane.Statement.{statement}
 use Rattle.inverter.proofs.plane.invert_plane.Tie as tie
 
-sound-plane-requires : tie.Need-sound-plane-requires
-sound-plane-requires c κs = search needs
-
 returns : tie.Need-returns
 unfolding placedOn
 returns c = unsound (c .before .sound-plane .ensures) _ _ (not-true _ (c .if1 .taken))
@@ -15,9 +12,6 @@ returns c = unsound (c .before .sound-plane .ensures) _ _ (not-true _ (c .if1 .t
 returns-2 : tie.Need-returns-2
 unfolding placedOn
 returns-2 c = let at = c .before in unpaid (at .before .sound-plane .ensures) _ _ (not-false _ (at .if1 .left)) (c .if2 .taken)
-
-local-requires : tie.Need-local-requires
-local-requires c κs = search needs
 
 returns-3 : tie.Need-returns-3
 unfolding placedOn
@@ -27,8 +21,8 @@ pub invert-plane-spec : {M : Type 1} → statement M
 invert-plane-spec =
     tie.close
     (tie.spec
-    sound-plane-requires
+    (λ c κs. search needs)
     returns
     returns-2
-    local-requires
+    (λ c κs. search needs)
     returns-3)

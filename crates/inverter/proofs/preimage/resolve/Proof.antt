@@ -6,18 +6,15 @@ use lib.Ieee.{Float, le}
 use borrow.Author.Needs.{needs}
 use Rattle.float64.specs.Operators.{_⊖_, _⊗_, _⊘_, 1e-24}
 use Rattle.float64.specs.Functions.{isFinite}
-use Rattle.chart.specs.declared.Placing.the-variants.{Pair}
+use Rattle.inverter.specs.declared.Components.the-variants.{Along}
 use Rattle.inverter.specs.Preimage.{resolved}
 use Rattle.inverter.proofs.preimage.resolve.Statement.{statement}
 use Rattle.inverter.proofs.preimage.resolve.Tie as tie
 
 regular : (a b c r0 r1 : Float) {f : Bool} → f ≡ isFinite (a ⊗ c ⊖ b ⊗ b) → not f ≡ false → le (a ⊗ c ⊖ b ⊗ b) (1e-24 ⊗ a ⊗ c) ≡ false
-    → Pair ((c ⊗ r0 ⊖ b ⊗ r1) ⊘ (a ⊗ c ⊖ b ⊗ b)) ((a ⊗ r1 ⊖ b ⊗ r0) ⊘ (a ⊗ c ⊖ b ⊗ b)) 1 ≡ resolved a b c r0 r1
+    → Along ((c ⊗ r0 ⊖ b ⊗ r1) ⊘ (a ⊗ c ⊖ b ⊗ b)) ((a ⊗ r1 ⊖ b ⊗ r0) ⊘ (a ⊗ c ⊖ b ⊗ b)) ≡ resolved a b c r0 r1
 unfolding resolved
 regular a b c r0 r1 p s t = simp (← p, s, t)
-
-is-finite-requires : tie.Need-is-finite-requires
-is-finite-requires c κs = search needs
 
 returns : tie.Need-returns
 unfolding resolved
@@ -29,4 +26,4 @@ returns-2 : tie.Need-returns-2
 returns-2 c = regular _ _ _ _ _ (c .before .before .is-finite .ensures) (c .before .if1 .left) (c .if2 .left)
 
 pub resolve-spec : {M : Type 1} → statement M
-resolve-spec = tie.close (tie.spec is-finite-requires returns returns-2)
+resolve-spec = tie.close (tie.spec (λ c κs. search needs) returns returns-2)

@@ -4,92 +4,75 @@ use Prim.Native.Nat.{_+_, _-_, _*_, _≤_}
 use native.Mathlib.Omega.{arith}
 use lib.ListN.{length}
 use Rattle.surface.specs.Surface.{surface}
-use Rattle.inversion.specs.declared.Hint.the-variants.{Nothing}
-use Rattle.chart.specs.declared.Period.the-variants.{Free}
 use Rattle.row.specs.Row.{inTurn}
+use Rattle.row.specs.RowLaws.{Unshifted}
 use Rattle.job_format.specs.Offsets.{marksAt}
 use Rattle.job.specs.Printout.{rowLines}
-use Rattle.job.proofs.Steps.{Rest, put-as, rest-goes, rest-stops, rest-over, linesFrom, lines-begin, lines-over, lines-pair, lines-refused, pair-printable}
+use Rattle.job.proofs.Steps.{printable, Rest, put-as, rest-goes, rest-stops, rest-over, linesFrom, lines-begin, lines-over, lines-placed, lines-refused}
 use borrow.Author.Needs.{needs}
 use Rattle.job.proofs.marks.print_marks.Statement.{statement}
 use Rattle.job.proofs.marks.print_marks.Tie as tie
 
 abbrev Inv-loop : tie.InvT-loop
-Inv-loop shape ku kv controls weights scale tolerance bytes first marks budget out₀ from hint₀ left₀ at₀ i₀ out hint left at i =
-    let s = surface shape ku kv controls weights in
-    (i ≤ marks) × (at + 55 * (marks - i + 1) ≤ length out) × (length out ≡ length out₀)
-    × Rest from (rowLines (inTurn s tolerance Free Free 0 (marksAt marks bytes first) Nothing budget)) out₀ at (linesFrom s tolerance bytes first marks i hint left) out
+Inv-loop accepted ku kv controls weights bytes out₀ from first progress₀ at₀ i₀ count out progress at i =
+    let s = surface (accepted .shape) ku kv controls weights in
+    (i ≤ count) × (at + 55 * (count - i + 1) ≤ length out) × (length out ≡ length out₀) × Unshifted (progress .terms)
+    × Rest from (rowLines (inTurn s 0 (marksAt count bytes first) progress₀)) out₀ at (linesFrom s bytes first count i progress) out
 
 abbrev μ-loop : tie.MeasureT-loop
-μ-loop shape ku kv controls weights scale tolerance bytes first marks budget out₀ from hint₀ left₀ at₀ i₀ out hint left at i =
-    marks - i
+μ-loop accepted ku kv controls weights bytes out₀ from first progress₀ at₀ i₀ count out progress at i =
+    count - i
 
 loop-holds : tie.Need-loop-holds Inv-loop μ-loop
 loop-holds c =
-    let a = c .before .before .before .before .before .before .args in
-    let s = surface (a .shape) (a .ku .now) (a .kv .now) (a .controls .now) (a .weights .now) in
-    (omega arith, omega arith, refl, λ after end p. put-as (sym (lines-begin s (a .tolerance) (a .bytes .now) (a .first) (a .marks) (a .budget))) p)
+    let st = c .before .before .before .before .before .before .before in
+    let a = st .args in
+    (omega arith, omega arith, refl, st .pre .1, λ after end p. put-as (sym (lines-begin _ (a .bytes .now) (a .queue .first) (a .queue .count) (a .queue .progress))) p)
 
-mul-mark-at : tie.Need-mul-mark-at Inv-loop μ-loop
-mul-mark-at c = search needs
+step-requires : tie.Need-step-requires Inv-loop μ-loop
+step-requires c κs = c .before .before .before .before .before .before .before .before .before .before .pre .0
 
-add-mark-at : tie.Need-add-mark-at Inv-loop μ-loop
-add-mark-at c = search needs
-
-mark-at-requires : tie.Need-mark-at-requires Inv-loop μ-loop
-mark-at-requires c κs = search needs
-
-place-requires : tie.Need-place-requires Inv-loop μ-loop
-place-requires c κs = search needs
-
-put-placing-requires : tie.Need-put-placing-requires Inv-loop μ-loop
-put-placing-requires c κs = (omega arith, c .before .place .ensures .1)
-
-enum-known-placing : tie.Need-enum-known-placing Inv-loop μ-loop
-enum-known-placing c = search needs
-
-enum-told : tie.Need-enum-told Inv-loop μ-loop
-enum-told c = search needs
+put-step-requires : tie.Need-put-step-requires Inv-loop μ-loop
+put-step-requires c κs =
+    let p = c .before in
+    (omega arith, printable _ _ _ (p .before .before .before .loop .inv .3) _ (p .step .ensures))
 
 same-length : tie.Need-same-length Inv-loop μ-loop
-same-length c = c .before .before .before .before .put-placing .ensures .0 .size ∙ c .before .before .before .before .before .before .before .before .before .loop .inv .2
+same-length c =
+    let q = c .before .before .before .before in
+    q .put-step .ensures .0 .size ∙ q .before .before .before .before .before .loop .inv .2
 
 returns : tie.Need-returns Inv-loop μ-loop
 returns c =
     let q = c .before .before .before .before in
     let p = q .before .before in
-    let to = p .before .before .before in
+    let m = p .before in
+    let to = m .before .before in
     let l = to .loop in
-    let a = to .before .before .before .before .before .before .before .args in
-    let s = surface (a .shape) (a .ku .now) (a .kv .now) (a .controls .now) (a .weights .now) in
-    rest-stops (l .inv .3) _ _ _
-    (lines-refused s (a .tolerance) (a .bytes .now) (a .first) (a .marks) (l .i) (l .hint) (l .left) (p .before .before .loop-test .taken) (p .before .mark-at .result) (p .before .mark-at .ensures) (p .place .result) (p .place .ensures .0) _ _ (c .enum-told .given .1))
-    (q .put-placing .ensures .0)
-
-sub-left : tie.Need-sub-left Inv-loop μ-loop
-sub-left c =
-    pair-printable (c .before .before .before .before .before .before .before .before .before .before .loop .left) _ _ _ _ (c .before .placing .given .1) (c .before .before .before .before .before .before .before .place .ensures .1) .2
+    let a = to .before .before .before .before .before .before .before .before .args in
+    rest-stops (l .inv .4) _ _ _
+    (lines-refused _ (a .bytes .now) (a .queue .first) (a .queue .count) (l .i) (l .progress) (m .before .loop-test .taken) _ (m .mark-at .ensures) _ (p .step .ensures) _ _ (c .enum-told .given .1))
+    (q .put-step .ensures .0)
 
 add-i : tie.Need-add-i Inv-loop μ-loop
-add-i c = search needs
-
-loop-less : tie.Need-loop-less Inv-loop μ-loop
-loop-less c = search needs
+add-i c = record { fits = omega (arith, c .before .before .before .before .before .before .before .before .before) }
 
 loop-again : tie.Need-loop-again Inv-loop μ-loop
 loop-again c =
     let q = c .before .before .before .before .before in
     let p = q .before .before in
-    let to = p .before .before .before in
+    let m = p .before in
+    let to = m .before .before in
     let l = to .loop in
-    let a = to .before .before .before .before .before .before .before .args in
-    let s = surface (a .shape) (a .ku .now) (a .kv .now) (a .controls .now) (a .weights .now) in (
+    let a = to .before .before .before .before .before .before .before .before .args in
+    let placed = c .before .stepped .given .1 in (
       omega arith,
-      omega (arith, q .put-placing .ensures .1, q .put-placing .ensures .0 .size, l .inv .1),
-      q .put-placing .ensures .0 .size ∙ l .inv .2,
-      rest-goes (l .inv .3) _ _ _ _
-          (lines-pair s (a .tolerance) (a .bytes .now) (a .first) (a .marks) (l .i) (l .hint) (l .left) (p .before .before .loop-test .taken) (p .before .mark-at .result) (p .before .mark-at .ensures) (p .place .result) (p .place .ensures .0) _ _ _ (c .before .placing .given .1))
-          (q .put-placing .ensures .0),
+      omega (arith, q .put-step .ensures .1, q .put-step .ensures .0 .size, l .inv .1),
+      q .put-step .ensures .0 .size ∙ l .inv .2,
+      (rw placed at (printable _ _ _ (l .inv .3) _ (p .step .ensures))) .1,
+      rest-goes (l .inv .4) _ _ _ _
+          (lines-placed _ (a .bytes .now) (a .queue .first) (a .queue .count) (l .i) (l .progress) (m .before .loop-test .taken) _ (m .mark-at .ensures) _ (p .step .ensures) _ _ placed)
+          (q .put-step .ensures .0),
     )
 
 same-length-2 : tie.Need-same-length-2 Inv-loop μ-loop
@@ -98,9 +81,8 @@ same-length-2 c = c .before .loop .inv .2
 returns-2 : tie.Need-returns-2 Inv-loop μ-loop
 returns-2 c =
     let l = c .before .loop in
-    let a = c .before .before .before .before .before .before .before .before .args in
-    let s = surface (a .shape) (a .ku .now) (a .kv .now) (a .controls .now) (a .weights .now) in
-    rest-over (l .inv .3) (omega arith) (lines-over s (a .tolerance) (a .bytes .now) (a .first) (a .marks) (l .i) (l .hint) (l .left) (c .loop-test .left))
+    let a = c .before .before .before .before .before .before .before .before .before .args in
+    rest-over (l .inv .4) (omega arith) (lines-over _ (a .bytes .now) (a .queue .first) (a .queue .count) (l .i) (l .progress) (c .loop-test .left))
 
 pub print-marks-spec : {M : Type 1} → statement M
 print-marks-spec =
@@ -109,18 +91,17 @@ print-marks-spec =
     Inv-loop
     μ-loop
     loop-holds
-    mul-mark-at
-    add-mark-at
-    mark-at-requires
-    place-requires
-    put-placing-requires
-    enum-known-placing
-    enum-told
+    (λ c. search needs)
+    (λ c. search needs)
+    (λ c κs. search needs)
+    step-requires
+    put-step-requires
+    (λ c. search needs)
+    (λ c. search needs)
     same-length
     returns
-    sub-left
     add-i
-    loop-less
+    (λ c. search needs)
     loop-again
     same-length-2
     returns-2)

@@ -5,12 +5,9 @@ use borrow.Author.Needs.{needs}
 use Rattle.lent.proofs.arguments.fits_jet.Statement.{statement}
 use Rattle.lent.proofs.arguments.fits_jet.Tie as tie
 
-sound-flags-requires : tie.Need-sound-flags-requires
-sound-flags-requires c κs = search needs
-
 returns : tie.Need-returns
 unfolding fitsJet
 returns c = both (c .sound-flags .ensures) refl
 
 pub fits-jet-spec : {M : Type 1} → statement M
-fits-jet-spec = tie.close (tie.spec sound-flags-requires returns)
+fits-jet-spec = tie.close (tie.spec (λ c κs. search needs) returns)

@@ -6,11 +6,8 @@ use Rattle.lent.proofs.arguments.period_of.Tie as tie
 returns : tie.Need-returns
 returns c = no-period _ (c .if1 .taken)
 
-shared-slice-read-t5 : tie.Need-shared-slice-read-t5
-shared-slice-read-t5 c = search needs
-
 returns-2 : tie.Need-returns-2
 returns-2 c = a-period _ (c .before .if1 .left)
 
 pub period-of-spec : {M : Type 1} → statement M
-period-of-spec = tie.close (tie.spec returns shared-slice-read-t5 returns-2)
+period-of-spec = tie.close (tie.spec returns (λ c. search needs) returns-2)

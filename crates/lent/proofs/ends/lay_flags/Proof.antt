@@ -4,32 +4,11 @@ use borrow.Author.Needs.{needs}
 use Rattle.lent.proofs.ends.lay_flags.Statement.{statement}
 use Rattle.lent.proofs.ends.lay_flags.Tie as tie
 
-flag-of-requires : tie.Need-flag-of-requires
-flag-of-requires c κs = search needs
-
-slice-write-collapsed : tie.Need-slice-write-collapsed
-slice-write-collapsed c = search needs
-
-flag-of-requires-2 : tie.Need-flag-of-requires-2
-flag-of-requires-2 c κs = search needs
-
 slice-write-collapsed-2 : tie.Need-slice-write-collapsed-2
 slice-write-collapsed-2 c = let at = c .before .before .before in second (now (at .args .collapsed)) (at .pre) (c .before .flag-of .result)
 
-flag-of-requires-3 : tie.Need-flag-of-requires-3
-flag-of-requires-3 c κs = search needs
-
 slice-write-collapsed-3 : tie.Need-slice-write-collapsed-3
 slice-write-collapsed-3 c = let at = c .before .before .before .before in third (now (at .args .collapsed)) (at .pre) (c .before .before .flag-of .result) (c .before .flag-of2 .result)
-
-flag-of-requires-4 : tie.Need-flag-of-requires-4
-flag-of-requires-4 c κs = search needs
-
-slice-write-collapsed-4 : tie.Need-slice-write-collapsed-4
-slice-write-collapsed-4 c = search needs
-
-same-length : tie.Need-same-length
-same-length c = search needs
 
 returns : tie.Need-returns
 returns c = let at = c .before .before .before .before .before in four-flags (now (at .args .collapsed)) (at .pre) (c .before .before .before .flag-of .ensures) (c .before .before .flag-of2 .ensures) (c .before .flag-of3 .ensures) (c .flag-of4 .ensures)
@@ -38,13 +17,13 @@ pub lay-flags-spec : {M : Type 1} → statement M
 lay-flags-spec =
     tie.close
     (tie.spec
-    flag-of-requires
-    slice-write-collapsed
-    flag-of-requires-2
+    (λ c κs. search needs)
+    (λ c. search needs)
+    (λ c κs. search needs)
     slice-write-collapsed-2
-    flag-of-requires-3
+    (λ c κs. search needs)
     slice-write-collapsed-3
-    flag-of-requires-4
-    slice-write-collapsed-4
-    same-length
+    (λ c κs. search needs)
+    (λ c. search needs)
+    (λ c. search needs)
     returns)

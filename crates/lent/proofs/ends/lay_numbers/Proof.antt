@@ -3,21 +3,6 @@ use borrow.Author.Needs.{needs}
 use Rattle.lent.proofs.ends.lay_numbers.Statement.{statement}
 use Rattle.lent.proofs.ends.lay_numbers.Tie as tie
 
-lay-edge-requires : tie.Need-lay-edge-requires
-lay-edge-requires c κs = search needs
-
-lay-edge-requires-2 : tie.Need-lay-edge-requires-2
-lay-edge-requires-2 c κs = search needs
-
-lay-edge-requires-3 : tie.Need-lay-edge-requires-3
-lay-edge-requires-3 c κs = search needs
-
-lay-edge-requires-4 : tie.Need-lay-edge-requires-4
-lay-edge-requires-4 c κs = search needs
-
-same-length : tie.Need-same-length
-same-length c = search needs
-
 returns : tie.Need-returns
 returns c =
     let l4 = c .before .before in
@@ -30,9 +15,9 @@ pub lay-numbers-spec : {M : Type 1} → statement M
 lay-numbers-spec =
     tie.close
     (tie.spec
-    lay-edge-requires
-    lay-edge-requires-2
-    lay-edge-requires-3
-    lay-edge-requires-4
-    same-length
+    (λ c κs. search needs)
+    (λ c κs. search needs)
+    (λ c κs. search needs)
+    (λ c κs. search needs)
+    (λ c. search needs)
     returns)

@@ -12,16 +12,13 @@ returns-2 : tie.Need-returns-2
 unfolding judge
 returns-2 c = simp (c .before .before .before .if1 .left, c .if2 .taken)
 
-still-requires : tie.Need-still-requires
-still-requires c κs = search needs
-
 returns-3 : tie.Need-returns-3
 unfolding judge
-returns-3 c = simp (c .before .before .before .before .before .if1 .left, c .before .before .if2 .left, ← c .before .still .ensures, c .if3 .taken)
+returns-3 c = simp (c .before .before .before .before .before .if1 .left, c .before .before .if2 .left, ← c .before .is-small-step .ensures, c .if3 .taken)
 
 returns-4 : tie.Need-returns-4
 unfolding judge
-returns-4 c = simp (c .before .before .before .before .before .if1 .left, c .before .before .if2 .left, ← c .before .still .ensures, c .if3 .left)
+returns-4 c = simp (c .before .before .before .before .before .if1 .left, c .before .before .if2 .left, ← c .before .is-small-step .ensures, c .if3 .left)
 
 pub judge-spec : {M : Type 1} → statement M
-judge-spec = tie.close (tie.spec returns returns-2 still-requires returns-3 returns-4)
+judge-spec = tie.close (tie.spec returns returns-2 (λ c κs. search needs) returns-3 returns-4)

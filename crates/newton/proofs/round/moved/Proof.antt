@@ -6,11 +6,11 @@ use Rattle.newton.proofs.round.moved.Tie as tie
 
 returns : tie.Need-returns
 unfolding moved
-returns c = simp (c .before .if1 .taken, c .if2 .taken)
+returns c = simp (c .before .before .if1 .taken, c .if2 .taken)
 
 returns-2 : tie.Need-returns-2
 unfolding moved
-returns-2 c = ⊎-elim (λ w. simp (w .0 .taken, w .1 .left)) (λ w. simp (w .left)) (c .if1 .came)
+returns-2 c = ⊎-elim (λ w. simp (w .0 .taken, w .2 .left)) (λ w. simp (w .left)) (c .if1 .came)
 
 pub moved-spec : {M : Type 1} → statement M
 moved-spec = tie.close (tie.spec returns returns-2)

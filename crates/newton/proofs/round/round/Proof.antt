@@ -1,11 +1,11 @@
 -- Each way out of a round is a case of its definition.
 use borrow.Author.Needs.{needs}
-use Rattle.newton.proofs.RoundSteps.{halted, unpaid, refused, further, last, onward}
+use Rattle.newton.proofs.RoundSteps.{halted, unpaid, unfound, further, last, onward}
 use Rattle.newton.proofs.round.round.Statement.{statement}
 use Rattle.newton.proofs.round.round.Tie as tie
 
 abbrev start : tie.After-plan-from → tie.Start
-start c = c .before .before .before .before .before
+start c = c .before .before .before .before .before .before .before
 
 abbrev planned : tie.After-nudge → tie.After-plan-from
 planned c = c .before .before
@@ -14,61 +14,25 @@ abbrev probed : tie.After-scaled-jet → tie.After-nudge
 probed c = c .before .before .before
 
 abbrev found : tie.After-judge → tie.After-jet
-found c = c .before .before .before .before
-
-plan-from-requires : tie.Need-plan-from-requires
-plan-from-requires c κs = search needs
-
-enum-known-nudge : tie.Need-enum-known-nudge
-enum-known-nudge c = search needs
-
-enum-told : tie.Need-enum-told
-enum-told c = search needs
+found c = c .before .before .before .before .before
 
 returns : tie.Need-returns
 returns c =
     let to = c .before .before in
-    halted _ _ _ _ (start to .args .held) _ (start to .pre .1) (start to .pre .2) (to .plan-from .ensures) (c .enum-told .given .1)
+    halted _ _ _ _ (start to .args .held) _ (start to .pre .1) (to .plan-from .ensures) (c .enum-told .given .1)
 
 returns-2 : tie.Need-returns-2
 returns-2 c =
     let at = c .before .before in
     let to = planned at in
-    unpaid _ _ _ _ (start to .args .held) _ (start to .pre .1) (start to .pre .2) (to .plan-from .ensures) _ _ _ (at .nudge .given .1) (c .if1 .taken)
-
-add-units : tie.Need-add-units
-add-units c = search needs
-
-scaled-jet-requires : tie.Need-scaled-jet-requires
-scaled-jet-requires c κs = search needs
-
-enum-known-jet : tie.Need-enum-known-jet
-enum-known-jet c = search needs
-
-enum-told-2 : tie.Need-enum-told-2
-enum-told-2 c = search needs
+    unpaid _ _ _ _ (start to .args .held) _ (start to .pre .1) (to .plan-from .ensures) _ _ _ (at .nudge .given .1) (c .if1 .taken)
 
 returns-3 : tie.Need-returns-3
 returns-3 c =
     let jet = c .before .before in
     let at = probed jet in
     let to = planned at in
-    refused _ _ _ _ (start to .args .held) _ (start to .pre .1) (start to .pre .2) (to .plan-from .ensures) _ _ _ (at .nudge .given .1) (jet .before .if1 .left) (jet .scaled-jet .ensures) (c .enum-told2 .given .1)
-
-hold-requires : tie.Need-hold-requires
-hold-requires c κs = search needs
-
-judge-requires : tie.Need-judge-requires
-judge-requires c κs = search needs
-
-enum-told-3 : tie.Need-enum-told-3
-enum-told-3 c = search needs
-
-enum-told-4 : tie.Need-enum-told-4
-enum-told-4 c = search needs
-
-enum-told-5 : tie.Need-enum-told-5
-enum-told-5 c = search needs
+    unfound _ _ _ _ (start to .args .held) _ (start to .pre .1) (to .plan-from .ensures) _ _ _ (at .nudge .given .1) (jet .before .if1 .left) (jet .scaled-jet .ensures) (c .enum-told2 .given .1)
 
 returns-4 : tie.Need-returns-4
 returns-4 c =
@@ -77,7 +41,7 @@ returns-4 c =
     let jet = is .before .before in
     let at = probed jet in
     let to = planned at in
-    further _ _ _ _ (start to .args .held) _ (start to .pre .1) (start to .pre .2) (to .plan-from .ensures) _ _ _ (at .nudge .given .1) (jet .before .if1 .left) (jet .scaled-jet .ensures) _ (is .jet .given .1) (by .before .hold .result) (by .before .hold .ensures) (by .judge .ensures) (c .enum-told3 .given .1)
+    further _ _ _ _ (start to .args .held) _ (start to .pre .1) (to .plan-from .ensures) _ _ _ (at .nudge .given .1) (jet .before .if1 .left) (jet .scaled-jet .ensures) _ (is .jet .given .1) (by .before .before .hold .result) (by .before .before .hold .ensures) (by .judge .ensures) (c .enum-told3 .given .1)
 
 returns-5 : tie.Need-returns-5
 returns-5 c =
@@ -86,7 +50,7 @@ returns-5 c =
     let jet = is .before .before in
     let at = probed jet in
     let to = planned at in
-    last _ _ _ _ (start to .args .held) _ (start to .pre .1) (start to .pre .2) (to .plan-from .ensures) _ _ _ (at .nudge .given .1) (jet .before .if1 .left) (jet .scaled-jet .ensures) _ (is .jet .given .1) (by .before .hold .result) (by .before .hold .ensures) (by .judge .ensures) (c .enum-told4 .given .1)
+    last _ _ _ _ (start to .args .held) _ (start to .pre .1) (to .plan-from .ensures) _ _ _ (at .nudge .given .1) (jet .before .if1 .left) (jet .scaled-jet .ensures) _ (is .jet .given .1) (by .before .before .hold .result) (by .before .before .hold .ensures) (by .judge .ensures) (c .enum-told4 .given .1)
 
 returns-6 : tie.Need-returns-6
 returns-6 c =
@@ -95,27 +59,27 @@ returns-6 c =
     let jet = is .before .before in
     let at = probed jet in
     let to = planned at in
-    onward _ _ _ _ (start to .args .held) _ (start to .pre .1) (start to .pre .2) (to .plan-from .ensures) _ _ _ (at .nudge .given .1) (jet .before .if1 .left) (jet .scaled-jet .ensures) _ (is .jet .given .1) (by .before .hold .result) (by .before .hold .ensures) (by .judge .ensures) (c .enum-told5 .given .1)
+    onward _ _ _ _ (start to .args .held) _ (start to .pre .1) (to .plan-from .ensures) _ _ _ (at .nudge .given .1) (jet .before .if1 .left) (jet .scaled-jet .ensures) _ (is .jet .given .1) (by .before .before .hold .result) (by .before .before .hold .ensures) (by .judge .ensures) (c .enum-told5 .given .1)
 
 pub round-spec : {M : Type 1} → statement M
 round-spec =
     tie.close
     (tie.spec
-    plan-from-requires
-    enum-known-nudge
-    enum-told
+    (λ c κs. search needs)
+    (λ c. search needs)
+    (λ c. search needs)
     returns
     returns-2
-    add-units
-    scaled-jet-requires
-    enum-known-jet
-    enum-told-2
+    (λ c. search needs)
+    (λ c κs. search needs)
+    (λ c. search needs)
+    (λ c. search needs)
     returns-3
-    hold-requires
-    judge-requires
-    enum-told-3
-    enum-told-4
-    enum-told-5
+    (λ c κs. search needs)
+    (λ c κs. search needs)
+    (λ c. search needs)
+    (λ c. search needs)
+    (λ c. search needs)
     returns-4
     returns-5
     returns-6)

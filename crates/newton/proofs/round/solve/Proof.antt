@@ -16,12 +16,6 @@ regular : (a b c g0 g1 : Float) {f : Bool} {m : Float} → f ≡ isFinite (a ⊗
 unfolding solve
 regular a b c g0 g1 p q s t = simp (← p, ← q, s, t)
 
-max-requires : tie.Need-max-requires
-max-requires c κs = search needs
-
-is-finite-requires : tie.Need-is-finite-requires
-is-finite-requires c κs = search needs
-
 returns : tie.Need-returns
 unfolding solve
 returns c =
@@ -32,4 +26,4 @@ returns-2 : tie.Need-returns-2
 returns-2 c = regular _ _ _ _ _ (c .before .before .is-finite .ensures) (c .before .before .before .max .ensures) (c .before .if1 .left) (c .if2 .left)
 
 pub solve-spec : {M : Type 1} → statement M
-solve-spec = tie.close (tie.spec max-requires is-finite-requires returns returns-2)
+solve-spec = tie.close (tie.spec (λ c κs. search needs) (λ c κs. search needs) returns returns-2)

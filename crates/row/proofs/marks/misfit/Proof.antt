@@ -3,12 +3,9 @@ use borrow.Author.Needs.{needs}
 use Rattle.row.proofs.marks.misfit.Statement.{statement}
 use Rattle.row.proofs.marks.misfit.Tie as tie
 
-mul-result : tie.Need-mul-result
-mul-result c = search needs
-
 returns : tie.Need-returns
 unfolding misfit
 returns c = search needs
 
 pub misfit-spec : {M : Type 1} → statement M
-misfit-spec = tie.close (tie.spec mul-result returns)
+misfit-spec = tie.close (tie.spec (λ c. search needs) returns)

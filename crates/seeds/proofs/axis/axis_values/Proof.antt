@@ -33,9 +33,6 @@ mul-high c = omega (arith, known (c .before .before))
 shared-slice-read-high : tie.Need-shared-slice-read-high
 shared-slice-read-high c = omega (arith, known (c .before .before .before))
 
-count-breaks-requires : tie.Need-count-breaks-requires
-count-breaks-requires c κs = search needs
-
 stride-requires : tie.Need-stride-requires
 stride-requires c κs = omega (arith, known (c .before .before .before .before))
 
@@ -54,9 +51,6 @@ closed-requires c κs =
     let s = c .before .before .before .before .before .before in
     closable (of s) _ (kept-here c) (s .pre) _ (c .thin .ensures .1)
 
-values-requires : tie.Need-values-requires
-values-requires c κs = search needs
-
 returns : tie.Need-returns
 returns c =
     let t = c .before .before in
@@ -70,10 +64,10 @@ axis-values-spec =
     shared-slice-read-low
     mul-high
     shared-slice-read-high
-    count-breaks-requires
+    (λ c κs. search needs)
     stride-requires
     sub-thin
     thin-requires
     closed-requires
-    values-requires
+    (λ c κs. search needs)
     returns)

@@ -7,23 +7,11 @@ use Rattle.seeds.proofs.AxisSteps.{closed-same, closed-more}
 use Rattle.seeds.proofs.axis.closed.Statement.{statement}
 use Rattle.seeds.proofs.axis.closed.Tie as tie
 
-sub-if1 : tie.Need-sub-if1
-sub-if1 c = search needs
-
-mul-if1 : tie.Need-mul-if1
-mul-if1 c = search needs
-
-array-read-if1 : tie.Need-array-read-if1
-array-read-if1 c = search needs
-
 returns : tie.Need-returns
 returns c =
     let s = c .before .before in
     let n : length (s .args .b .at) ≡ 25 = search needs in
     (closed-same (s .args .b .at) (s .args .b .count) _ (s .pre .2) (omega arith) (omega arith) (c .if1 .taken), omega arith, omega arith)
-
-add-break-requires : tie.Need-add-break-requires
-add-break-requires c κs = search needs
 
 returns-2 : tie.Need-returns-2
 returns-2 c =
@@ -36,4 +24,4 @@ returns-2 c =
 
 pub closed-spec : {M : Type 1} → statement M
 closed-spec =
-    tie.close (tie.spec sub-if1 mul-if1 array-read-if1 returns add-break-requires returns-2)
+    tie.close (tie.spec (λ c. search needs) (λ c. search needs) (λ c. search needs) returns (λ c κs. search needs) returns-2)

@@ -5,9 +5,6 @@ use Rattle.seeds.specs.Axis.{stride}
 use Rattle.seeds.proofs.axis.stride.Statement.{statement}
 use Rattle.seeds.proofs.axis.stride.Tie as tie
 
-add-n : tie.Need-add-n
-add-n c = search needs
-
 returns : tie.Need-returns
 unfolding stride
 returns c = omega arith
@@ -17,4 +14,4 @@ unfolding stride
 returns-2 c = omega arith
 
 pub stride-spec : {M : Type 1} → statement M
-stride-spec = tie.close (tie.spec add-n returns returns-2)
+stride-spec = tie.close (tie.spec (λ c. search needs) returns returns-2)

@@ -22,15 +22,6 @@ abbrev μ-loop : tie.MeasureT-loop
 loop-holds : tie.Need-loop-holds Inv-loop μ-loop
 loop-holds c = (omega arith, omega arith, refl, ap (every _ 0) (ahead-begin _ _ _))
 
-mul-t : tie.Need-mul-t Inv-loop μ-loop
-mul-t c = search needs
-
-shared-slice-read-t : tie.Need-shared-slice-read-t Inv-loop μ-loop
-shared-slice-read-t c = search needs
-
-is-break-requires : tie.Need-is-break-requires Inv-loop μ-loop
-is-break-requires c κs = search needs
-
 add-break-requires : tie.Need-add-break-requires Inv-loop μ-loop
 add-break-requires c κs =
     let at = c .before .before .before .before .before in
@@ -38,15 +29,6 @@ add-break-requires c κs =
     let l = at .loop in
     let turn = thin-turn (a .low) (a .high) (l .last) (a .knots .now) (l .i) (omega arith) _ (c .before .before .is-break .ensures) _ (take (l .out .count) (l .out .at)) (a .skip) (l .left) (l .inv .3) in
     omega (arith, l .inv .2, at .before .before .pre, turn .room (c .before .if1 .taken) (c .if2 .taken))
-
-sub-left : tie.Need-sub-left Inv-loop μ-loop
-sub-left c = search needs
-
-add-i : tie.Need-add-i Inv-loop μ-loop
-add-i c = search needs
-
-loop-less : tie.Need-loop-less Inv-loop μ-loop
-loop-less c = search needs
 
 loop-again : tie.Need-loop-again Inv-loop μ-loop
 loop-again c =
@@ -77,12 +59,12 @@ thin-spec =
     Inv-loop
     μ-loop
     loop-holds
-    mul-t
-    shared-slice-read-t
-    is-break-requires
+    (λ c. search needs)
+    (λ c. search needs)
+    (λ c κs. search needs)
     add-break-requires
-    sub-left
-    add-i
-    loop-less
+    (λ c. search needs)
+    (λ c. search needs)
+    (λ c. search needs)
     loop-again
     returns)

@@ -7,22 +7,13 @@ use native.Mathlib.Omega.{arith}
 use lib.ListN.{length, getD}
 use lib.Ieee.{eq}
 use borrow.Author.Needs.{needs}
-use Rattle.seeds.specs.Insert.{held}
-use Rattle.seeds.proofs.Places.{none, place-le, met, new, unmapped, held-count}
+use Rattle.seeds.specs.Insert.{startsIn}
+use Rattle.seeds.proofs.Places.{none, place-le, met, new, unmapped, starts-count}
 use Rattle.seeds.proofs.insertion.enter.Statement.{statement}
 use Rattle.seeds.proofs.insertion.enter.Tie as tie
 
-holds : (c : tie.Start) → length (held (c .args .s)) ≡ c .args .s .count
-holds c = held-count (c .args .s) (c .pre) (search (unmapped))
-
-place-requires : tie.Need-place-requires
-place-requires c κs = search needs
-
-mul-y : tie.Need-mul-y
-mul-y c = search needs
-
-array-copy-out-y : tie.Need-array-copy-out-y
-array-copy-out-y c = search needs
+holds : (c : tie.Start) → length (startsIn (c .args .s)) ≡ c .args .s .count
+holds c = starts-count (c .args .s) (c .pre) (search (unmapped))
 
 returns : tie.Need-returns
 returns c =
@@ -34,7 +25,7 @@ splice-requires : tie.Need-splice-requires
 splice-requires c κs =
     let at = c .before in
     let start = at .before .before in
-    (omega arith, omega (arith, at .place .ensures, place-le (start .args .x .distance) (held (start .args .s)), holds start))
+    (omega arith, omega (arith, at .place .ensures, place-le (start .args .x .distance) (startsIn (start .args .s)), holds start))
 
 returns-2 : tie.Need-returns-2
 returns-2 c =
@@ -47,4 +38,4 @@ returns-2 c =
 
 pub enter-spec : {M : Type 1} → statement M
 enter-spec =
-    tie.close (tie.spec place-requires mul-y array-copy-out-y returns splice-requires returns-2)
+    tie.close (tie.spec (λ c κs. search needs) (λ c. search needs) (λ c. search needs) returns splice-requires returns-2)

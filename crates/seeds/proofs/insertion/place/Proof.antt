@@ -21,22 +21,10 @@ loop-holds c =
     let n : length (c .args .t1) ≡ 6 = search needs in
     (omega arith, omega arith, simp zero-add)
 
-mul-y : tie.Need-mul-y Inv-loop μ-loop
-mul-y c = search needs
-
-array-copy-out-y : tie.Need-array-copy-out-y Inv-loop μ-loop
-array-copy-out-y c = search needs
-
 returns : tie.Need-returns Inv-loop μ-loop
 returns c =
     let at = c .before .before .before .before in
     place-stops _ _ _ _ (at .loop .i) (at .loop .inv .1) (at .loop .inv .2) (c .if1 .taken) (omega arith)
-
-add-i : tie.Need-add-i Inv-loop μ-loop
-add-i c = search needs
-
-loop-less : tie.Need-loop-less Inv-loop μ-loop
-loop-less c = search needs
 
 loop-again : tie.Need-loop-again Inv-loop μ-loop
 loop-again c =
@@ -55,10 +43,10 @@ place-spec =
     Inv-loop
     μ-loop
     loop-holds
-    mul-y
-    array-copy-out-y
+    (λ c. search needs)
+    (λ c. search needs)
     returns
-    add-i
-    loop-less
+    (λ c. search needs)
+    (λ c. search needs)
     loop-again
     returns-2)

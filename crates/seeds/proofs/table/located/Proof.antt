@@ -4,19 +4,13 @@ use borrow.Author.Needs.{needs}
 use Rattle.seeds.proofs.table.located.Statement.{statement}
 use Rattle.seeds.proofs.table.located.Tie as tie
 
-enum-known-e : tie.Need-enum-known-e
-enum-known-e c = search needs
-
-enum-told : tie.Need-enum-told
-enum-told c = search needs
-
 returns : tie.Need-returns
 unfolding located
-returns c = rw (c .before .before .e .given .1, c .point-of .ensures)
+returns c = rw (c .before .before .e .given .1)
 
 returns-2 : tie.Need-returns-2
 unfolding located
 returns-2 c = rw (c .enum-told .given .1)
 
 pub located-spec : {M : Type 1} → statement M
-located-spec = tie.close (tie.spec enum-known-e (λ c κs. search needs) enum-told returns returns-2)
+located-spec = tie.close (tie.spec (λ c. search needs) (λ c. search needs) returns returns-2)

@@ -14,17 +14,8 @@ returns c = no-degree _ _ _ (c .if1 .taken)
 returns-2 : tie.Need-returns-2
 returns-2 c = degree-above _ _ _ (c .if2 .taken)
 
-counts-fit-requires : tie.Need-counts-fit-requires
-counts-fit-requires c κs = search needs
-
 returns-3 : tie.Need-returns-3
 returns-3 c = counts-refused _ _ _ (c .before .before .before .if1 .left) (c .before .before .if2 .left) (sym (c .before .counts-fit .ensures) ∙ not-true _ (c .if3 .taken))
-
-add-knots-fit : tie.Need-add-knots-fit
-add-knots-fit c = search needs
-
-knots-fit-requires : tie.Need-knots-fit-requires
-knots-fit-requires c κs = search needs
 
 returns-4 : tie.Need-returns-4
 returns-4 c = knots-refused _ _ _ (c .before .before .before .before .before .if1 .left) (c .before .before .before .before .if2 .left) (sym (c .before .knots-fit .ensures) ∙ not-true _ (c .if4 .taken))
@@ -50,10 +41,10 @@ check-knots-spec =
     (tie.spec
     returns
     returns-2
-    counts-fit-requires
+    (λ c κs. search needs)
     returns-3
-    add-knots-fit
-    knots-fit-requires
+    (λ c. search needs)
+    (λ c κs. search needs)
     returns-4
     domain-fits-requires
     returns-5

@@ -14,15 +14,9 @@ returns-2 c = count-above _ _ _ (c .if2 .taken)
 returns-3 : tie.Need-returns-3
 returns-3 c = controls-few _ _ _ (c .if3 .taken)
 
-add-result : tie.Need-add-result
-add-result c = search needs
-
-add-result-2 : tie.Need-add-result-2
-add-result-2 c = search needs
-
 returns-4 : tie.Need-returns-4
 returns-4 c = in-limits _ _ _ (omega arith) (omega arith) (omega arith)
 
 pub counts-fit-spec : {M : Type 1} → statement M
 counts-fit-spec =
-    tie.close (tie.spec returns returns-2 returns-3 add-result add-result-2 returns-4)
+    tie.close (tie.spec returns returns-2 returns-3 (λ c. search needs) (λ c. search needs) returns-4)

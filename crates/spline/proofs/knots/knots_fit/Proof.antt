@@ -16,20 +16,8 @@ Inv-loop knots most i₀ i-end i = (i ≤ length knots) × (i-end ≡ length kno
 abbrev μ-loop : tie.MeasureT-loop
 μ-loop knots most i₀ i-end i = length knots - i
 
-loop-holds : tie.Need-loop-holds Inv-loop μ-loop
-loop-holds c = search needs
-
-knot-fits-requires : tie.Need-knot-fits-requires Inv-loop μ-loop
-knot-fits-requires c κs = search needs
-
 returns : tie.Need-returns Inv-loop μ-loop
 returns c = sym (stops (knots-each _) _ _ (c .before .before .before .loop .inv .2) (omega arith) (sym (c .before .knot-fits .ensures) ∙ not-true _ (c .if1 .taken)))
-
-add-i : tie.Need-add-i Inv-loop μ-loop
-add-i c = search needs
-
-loop-less : tie.Need-loop-less Inv-loop μ-loop
-loop-less c = search needs
 
 loop-again : tie.Need-loop-again Inv-loop μ-loop
 loop-again c = (omega arith, omega arith, goes (knots-each _) _ _ (c .before .before .before .loop .inv .2) (omega arith) (sym (c .before .knot-fits .ensures) ∙ not-false _ (c .if1 .left)))
@@ -43,10 +31,10 @@ knots-fit-spec =
     (tie.spec
     Inv-loop
     μ-loop
-    loop-holds
-    knot-fits-requires
+    (λ c. search needs)
+    (λ c κs. search needs)
     returns
-    add-i
-    loop-less
+    (λ c. search needs)
+    (λ c. search needs)
     loop-again
     returns-2)

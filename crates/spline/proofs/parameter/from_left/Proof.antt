@@ -6,26 +6,8 @@ use Rattle.spline.specs.Knots.{fromLeft}
 use Rattle.spline.proofs.parameter.from_left.Statement.{statement}
 use Rattle.spline.proofs.parameter.from_left.Tie as tie
 
-mul-if1 : tie.Need-mul-if1
-mul-if1 c = search needs
-
-shared-slice-read-if1 : tie.Need-shared-slice-read-if1
-shared-slice-read-if1 c = search needs
-
 returns : tie.Need-returns
 returns c = sym (from-left-high _ _ _ (c .if1 .taken))
-
-enum-told : tie.Need-enum-told
-enum-told c = search needs
-
-mul-result : tie.Need-mul-result
-mul-result c = search needs
-
-shared-slice-read-result : tie.Need-shared-slice-read-result
-shared-slice-read-result c = search needs
-
-enum-told-2 : tie.Need-enum-told-2
-enum-told-2 c = search needs
 
 returns-2 : tie.Need-returns-2
 unfolding fromLeft
@@ -39,12 +21,12 @@ pub from-left-spec : {M : Type 1} → statement M
 from-left-spec =
     tie.close
     (tie.spec
-    mul-if1
-    shared-slice-read-if1
+    (λ c. search needs)
+    (λ c. search needs)
     returns
-    enum-told
-    mul-result
-    shared-slice-read-result
-    enum-told-2
+    (λ c. search needs)
+    (λ c. search needs)
+    (λ c. search needs)
+    (λ c. search needs)
     returns-2
     returns-3)

@@ -17,30 +17,6 @@ abbrev μ-loop : tie.MeasureT-loop
 abbrev mid : ℕ → ℕ → ℕ
 mid lo hi = lo + (hi - lo) / 2
 
-loop-holds : tie.Need-loop-holds Inv-loop μ-loop
-loop-holds c = search needs
-
-sub-mid : tie.Need-sub-mid Inv-loop μ-loop
-sub-mid c = search needs
-
-add-mid : tie.Need-add-mid Inv-loop μ-loop
-add-mid c = search needs
-
-mul-comes-before : tie.Need-mul-comes-before Inv-loop μ-loop
-mul-comes-before c = search needs
-
-shared-slice-read-comes-before : tie.Need-shared-slice-read-comes-before Inv-loop μ-loop
-shared-slice-read-comes-before c = search needs
-
-comes-before-requires : tie.Need-comes-before-requires Inv-loop μ-loop
-comes-before-requires c κs = search needs
-
-add-lo : tie.Need-add-lo Inv-loop μ-loop
-add-lo c = search needs
-
-loop-less : tie.Need-loop-less Inv-loop μ-loop
-loop-less c = search needs
-
 loop-again : tie.Need-loop-again Inv-loop μ-loop
 loop-again c =
     let at = c .before .before .before .before in
@@ -48,9 +24,6 @@ loop-again c =
     let lo = at .loop .lo in
     let hi = at .loop .hi in
     (omega arith, omega arith, at .loop .inv .2 ∙ rank-up (start .args .left) (start .args .u) (now (start .args .knots)) (start .pre .0) lo (mid lo hi) hi (omega arith) (omega arith) (omega arith) (sym (c .before .comes-before .ensures) ∙ c .if1 .taken))
-
-loop-less-2 : tie.Need-loop-less-2 Inv-loop μ-loop
-loop-less-2 c = search needs
 
 loop-again-2 : tie.Need-loop-again-2 Inv-loop μ-loop
 loop-again-2 c =
@@ -60,24 +33,21 @@ loop-again-2 c =
     let hi = at .loop .hi in
     (omega arith, omega arith, at .loop .inv .2 ∙ rank-down (start .args .left) (start .args .u) (now (start .args .knots)) (start .pre .0) lo (mid lo hi) hi (omega arith) (omega arith) (omega arith) (sym (c .before .comes-before .ensures) ∙ c .if1 .left))
 
-returns : tie.Need-returns Inv-loop μ-loop
-returns c = search needs
-
 pub partition-point-spec : {M : Type 1} → statement M
 partition-point-spec =
     tie.close
     (tie.spec
     Inv-loop
     μ-loop
-    loop-holds
-    sub-mid
-    add-mid
-    mul-comes-before
-    shared-slice-read-comes-before
-    comes-before-requires
-    add-lo
-    loop-less
+    (λ c. search needs)
+    (λ c. search needs)
+    (λ c. search needs)
+    (λ c. search needs)
+    (λ c. search needs)
+    (λ c κs. search needs)
+    (λ c. search needs)
+    (λ c. search needs)
     loop-again
-    loop-less-2
+    (λ c. search needs)
     loop-again-2
-    returns)
+    (λ c. search needs))

@@ -4,15 +4,9 @@ use Rattle.spline.specs.Knots.{snapped}
 use Rattle.spline.proofs.parameter.snap.Statement.{statement}
 use Rattle.spline.proofs.parameter.snap.Tie as tie
 
-is-finite-requires : tie.Need-is-finite-requires
-is-finite-requires c κs = search needs
-
 returns : tie.Need-returns
 unfolding snapped
 returns c = simp (← c .before .is-finite .ensures, c .if1 .taken)
-
-near-requires : tie.Need-near-requires
-near-requires c κs = search needs
 
 returns-2 : tie.Need-returns-2
 unfolding snapped
@@ -23,9 +17,6 @@ returns-3 : tie.Need-returns-3
 unfolding snapped
 returns-3 c =
     simp (← c .before .before .before .before .is-finite .ensures, c .before .before .before .if1 .left, c .before .before .if2 .taken, ← c .before .near .ensures, c .if3 .left)
-
-near-requires-2 : tie.Need-near-requires-2
-near-requires-2 c κs = search needs
 
 returns-4 : tie.Need-returns-4
 unfolding snapped
@@ -45,12 +36,12 @@ pub snap-spec : {M : Type 1} → statement M
 snap-spec =
     tie.close
     (tie.spec
-    is-finite-requires
+    (λ c κs. search needs)
     returns
-    near-requires
+    (λ c κs. search needs)
     returns-2
     returns-3
-    near-requires-2
+    (λ c κs. search needs)
     returns-4
     returns-5
     returns-6)

@@ -20,52 +20,10 @@ loop-holds : tie.Need-loop-holds Inv-loop μ-loop
 unfolding div ofBits
 loop-holds c = (omega arith, refl, refl, begin _)
 
-mul-with-pair : tie.Need-mul-with-pair Inv-loop μ-loop
-mul-with-pair c = search needs
-
-mul-with-pair-2 : tie.Need-mul-with-pair-2 Inv-loop μ-loop
-mul-with-pair-2 c = search needs
-
-shared-slice-read-with-pair : tie.Need-shared-slice-read-with-pair Inv-loop μ-loop
-shared-slice-read-with-pair c = search needs
-
-mul-with-pair-3 : tie.Need-mul-with-pair-3 Inv-loop μ-loop
-mul-with-pair-3 c = search needs
-
-add-with-pair : tie.Need-add-with-pair Inv-loop μ-loop
-add-with-pair c = search needs
-
-mul-with-pair-4 : tie.Need-mul-with-pair-4 Inv-loop μ-loop
-mul-with-pair-4 c = search needs
-
-shared-slice-read-with-pair-2 : tie.Need-shared-slice-read-with-pair-2 Inv-loop μ-loop
-shared-slice-read-with-pair-2 c = search needs
-
-with-pair-requires : tie.Need-with-pair-requires Inv-loop μ-loop
-with-pair-requires c κs = search needs
-
-add-i : tie.Need-add-i Inv-loop μ-loop
-add-i c = search needs
-
-loop-less : tie.Need-loop-less Inv-loop μ-loop
-loop-less c = search needs
-
 loop-again : tie.Need-loop-again Inv-loop μ-loop
 loop-again c =
     let l = c .before .before .before .before .loop in
     (omega arith, refl, refl, turn _ (l .i) (l .found .above) (l .found .least) (l .found .most) (l .inv .3) (omega arith) (c .with-pair .ensures))
-
-sub-last : tie.Need-sub-last Inv-loop μ-loop
-sub-last c = search needs
-
-mul-last : tie.Need-mul-last Inv-loop μ-loop
-mul-last c = search needs
-
-shared-slice-read-last : tie.Need-shared-slice-read-last Inv-loop μ-loop
-shared-slice-read-last c = search needs
-
-with-pair-requires-2 : tie.Need-with-pair-requires-2 Inv-loop μ-loop
-with-pair-requires-2 c κs = search needs
 
 returns : tie.Need-returns Inv-loop μ-loop
 returns c =
@@ -84,20 +42,20 @@ extremes-of-spec =
     Inv-loop
     μ-loop
     loop-holds
-    mul-with-pair
-    mul-with-pair-2
-    shared-slice-read-with-pair
-    mul-with-pair-3
-    add-with-pair
-    mul-with-pair-4
-    shared-slice-read-with-pair-2
-    with-pair-requires
-    add-i
-    loop-less
+    (λ c. search needs)
+    (λ c. search needs)
+    (λ c. search needs)
+    (λ c. search needs)
+    (λ c. search needs)
+    (λ c. search needs)
+    (λ c. search needs)
+    (λ c κs. search needs)
+    (λ c. search needs)
+    (λ c. search needs)
     loop-again
-    sub-last
-    mul-last
-    shared-slice-read-last
-    with-pair-requires-2
+    (λ c. search needs)
+    (λ c. search needs)
+    (λ c. search needs)
+    (λ c κs. search needs)
     returns
     returns-2)

@@ -7,12 +7,6 @@ use Rattle.spline.proofs.weights.validate_weights.Tie as tie
 returns : tie.Need-returns
 returns c = none-refused _ (c .if1 .taken)
 
-extremes-of-requires : tie.Need-extremes-of-requires
-extremes-of-requires c κs = search needs
-
-is-finite-requires : tie.Need-is-finite-requires
-is-finite-requires c κs = search needs
-
 returns-2 : tie.Need-returns-2
 returns-2 c =
     let at = c .before .before in
@@ -34,4 +28,4 @@ returns-4 c =
 pub validate-weights-spec : {M : Type 1} → statement M
 validate-weights-spec =
     tie.close
-    (tie.spec returns extremes-of-requires is-finite-requires returns-2 returns-3 returns-4)
+    (tie.spec returns (λ c κs. search needs) (λ c κs. search needs) returns-2 returns-3 returns-4)

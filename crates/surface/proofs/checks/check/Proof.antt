@@ -29,23 +29,14 @@ knots-left c = to-knots _ (weights-left (c .before .before .before .before)) _ (
 knots-v-left : (c : tie.Else7) → Leaves fromKnotsV (lent (c .before .before .before .before .before .before .before .before .before .before .before .before .before))
 knots-v-left c = to-knots-v _ _ (knots-left (c .before .before)) (c .before .check-knots .ensures) (c .if7 .left)
 
-product-requires : tie.Need-product-requires
-product-requires c κs = search needs
-
 returns : tie.Need-returns
 returns c = large-controls _ _ (c .before .product .ensures) (c .if1 .taken)
 
 returns-2 : tie.Need-returns-2
 returns-2 c = large-knots _ _ (c .before .before .product .ensures) (omega arith)
 
-sub-if3 : tie.Need-sub-if3
-sub-if3 c = search needs
-
 returns-3 : tie.Need-returns-3
 returns-3 c = large-knots _ _ (c .before .before .before .product .ensures) (omega arith)
-
-mul-if4 : tie.Need-mul-if4
-mul-if4 c = search needs
 
 returns-4 : tie.Need-returns-4
 returns-4 c = miscounted-controls _ _ (c .before .before .before .before .product .ensures) (c .before .before .before .if1 .left) (counts-left (c .before)) (c .if4 .taken)
@@ -53,32 +44,14 @@ returns-4 c = miscounted-controls _ _ (c .before .before .before .before .produc
 returns-5 : tie.Need-returns-5
 returns-5 c = miscounted-weights _ _ (c .before .before .before .before .before .product .ensures) (c .before .before .before .before .if1 .left) (counts-left (c .before .before)) (c .if5 .taken)
 
-all-finite-requires : tie.Need-all-finite-requires
-all-finite-requires c κs = search needs
-
 returns-6 : tie.Need-returns-6
 returns-6 c = not-finite _ (controls-left (c .before .before)) (sym (c .before .all-finite .ensures) ∙ not-true _ (c .if6 .taken))
-
-validate-weights-requires : tie.Need-validate-weights-requires
-validate-weights-requires c κs = search needs
-
-enum-known-weighed : tie.Need-enum-known-weighed
-enum-known-weighed c = search needs
-
-enum-told : tie.Need-enum-told
-enum-told c = search needs
 
 returns-7 : tie.Need-returns-7
 returns-7 c = refused-weights _ (weights-left (c .before .before .before)) (sym (c .before .before .validate-weights .ensures) ∙ c .enum-told .given .1)
 
-check-knots-requires : tie.Need-check-knots-requires
-check-knots-requires c κs = search needs
-
 returns-8 : tie.Need-returns-8
 returns-8 c = refused-u _ _ (knots-left (c .before .before)) (c .before .check-knots .ensures) (c .if7 .taken)
-
-check-knots-requires-2 : tie.Need-check-knots-requires-2
-check-knots-requires-2 c κs = search needs
 
 returns-9 : tie.Need-returns-9
 returns-9 c = refused _ _ (knots-v-left (c .before .before) ∙ sym (c .before .check-knots2 .ensures)) (c .if8 .taken)
@@ -92,22 +65,22 @@ pub check-spec : {M : Type 1} → statement M
 check-spec =
     tie.close
     (tie.spec
-    product-requires
+    (λ c κs. search needs)
     returns
     returns-2
-    sub-if3
+    (λ c. search needs)
     returns-3
-    mul-if4
+    (λ c. search needs)
     returns-4
     returns-5
-    all-finite-requires
+    (λ c κs. search needs)
     returns-6
-    validate-weights-requires
-    enum-known-weighed
-    enum-told
+    (λ c κs. search needs)
+    (λ c. search needs)
+    (λ c. search needs)
     returns-7
-    check-knots-requires
+    (λ c κs. search needs)
     returns-8
-    check-knots-requires-2
+    (λ c κs. search needs)
     returns-9
     returns-10)

@@ -8,12 +8,6 @@ use Rattle.surface.proofs.checks.product.Tie as tie
 returns : tie.Need-returns
 returns c = no-product _ _ (c .if1 .taken)
 
-div-if2 : tie.Need-div-if2
-div-if2 c = search needs
-
-add-result : tie.Need-add-result
-add-result c = search needs
-
 returns-2 : tie.Need-returns-2
 returns-2 c = omega (arith, product-over _ _ (c .before .if1 .left) (c .if2 .taken))
 
@@ -24,4 +18,4 @@ returns-3 : tie.Need-returns-3
 returns-3 c = omega (arith, product-within _ _ (c .before .if1 .left) (c .if2 .left))
 
 pub product-spec : {M : Type 1} → statement M
-product-spec = tie.close (tie.spec returns div-if2 add-result returns-2 mul-result returns-3)
+product-spec = tie.close (tie.spec returns (λ c. search needs) (λ c. search needs) returns-2 mul-result returns-3)

@@ -1,36 +1,29 @@
 -- The weights are divided twice: as they are gathered, and by the largest that was met.
 use native.Mathlib.Omega.{arith}
-use Rattle.surface.proofs.NetSteps.{patch-room, weighed}
+use Rattle.surface.specs.SumLaws.{patch-room}
+use Rattle.surface.proofs.SumSteps.{twice-divided}
 use borrow.Author.Needs.{needs}
 use Rattle.surface.proofs.sums.weigh.Statement.{statement}
 use Rattle.surface.proofs.sums.weigh.Tie as tie
 
-add-rows : tie.Need-add-rows
-add-rows c = search needs
+abbrev gathered : tie.After-struct-known2 → tie.After-scale-over
+gathered c = c .before .before .before
 
-add-columns : tie.Need-add-columns
-add-columns c = search needs
-
-scale-over-requires : tie.Need-scale-over-requires
-scale-over-requires c κs =
-    let pre = c .before .before .before .before .before .before .pre in
-    let p = pre .1 in
-    (rw (pre .0) (p .inside), omega (arith, p .rows-most), omega (arith, p .columns-most), pre .2)
+abbrev start : tie.After-scale-over → tie.Start
+start c = c .before .before .before .before .before
 
 mul-divide : tie.Need-mul-divide
-mul-divide c = let pre = c .before .before .before .before .before .before .before .before .pre in omega (arith, patch-room (pre .1))
+mul-divide c = omega (arith, patch-room (start (gathered c) .pre .1))
 
 divide-requires : tie.Need-divide-requires
-divide-requires c κs =
-    let pre = c .before .before .before .before .before .before .before .before .pre in
-    (patch-room (pre .1), c .before .scale-over .ensures .2)
+divide-requires c κs = (patch-room (start (gathered c) .pre .1), gathered c .scale-over .ensures .1 .whole)
 
 returns : tie.Need-returns
 returns c =
-    let e = c .before .before .scale-over .ensures in
-    weighed _ _ _ _ _ _ _ _ (e .0) (e .1) (c .divide .ensures .0) (c .divide .ensures .1)
+    let e = gathered (c .before) .scale-over .ensures in
+    twice-divided _ _ _ _ _ (e .0) (e .1) (c .divide .ensures)
 
 pub weigh-spec : {M : Type 1} → statement M
 weigh-spec =
     tie.close
-    (tie.spec add-rows add-columns scale-over-requires mul-divide divide-requires returns)
+    (tie.spec (λ c κs. search needs) (λ c. search needs) (λ c. search needs) mul-divide divide-requires returns)

@@ -5,15 +5,9 @@ use Rattle.replay.specs.Cursors.{numbersAt}
 use Rattle.replay.proofs.cursor.Cursor.numbers.Statement.{statement}
 use Rattle.replay.proofs.cursor.Cursor.numbers.Tie as tie
 
-word-requires : tie.Need-word-requires
-word-requires c κs = search needs
-
-take-requires : tie.Need-take-requires
-take-requires c κs = search needs
-
 returns : tie.Need-returns
 unfolding numbersAt
 returns c = (c .take .ensures .0 ∙ simp (c .before .before .word .ensures .0), c .take .ensures .1)
 
 pub numbers-spec : {M : Type 1} → statement M
-numbers-spec = tie.close (tie.spec word-requires take-requires returns)
+numbers-spec = tie.close (tie.spec (λ c κs. search needs) (λ c κs. search needs) returns)

@@ -27,29 +27,14 @@ module _ (n size : ℕ) (c : Cursor) where
   unfolding taken
   held s h = simp (s, le-leb _ _ h)
 
-nothing-requires : tie.Need-nothing-requires
-nothing-requires c κs = search needs
-
 returns : tie.Need-returns
 returns c = unsound _ _ _ _ (c .nothing .ensures) (not-true _ (c .before .if1 .taken))
-
-nothing-requires-2 : tie.Need-nothing-requires-2
-nothing-requires-2 c κs = search needs
 
 returns-2 : tie.Need-returns-2
 returns-2 c = beyond _ _ _ _ (c .nothing2 .ensures) (not-false _ (c .before .before .if1 .left)) (omega arith)
 
-sub-if3 : tie.Need-sub-if3
-sub-if3 c = search needs
-
-nothing-requires-3 : tie.Need-nothing-requires-3
-nothing-requires-3 c κs = search needs
-
 returns-3 : tie.Need-returns-3
 returns-3 c = beyond _ _ _ _ (c .nothing3 .ensures) (not-false _ (c .before .before .before .if1 .left)) (omega arith)
-
-add-to : tie.Need-add-to
-add-to c = search needs
 
 returns-4 : tie.Need-returns-4
 returns-4 c =
@@ -59,12 +44,12 @@ pub take-spec : {M : Type 1} → statement M
 take-spec =
     tie.close
     (tie.spec
-    nothing-requires
+    (λ c κs. search needs)
     returns
-    nothing-requires-2
+    (λ c κs. search needs)
     returns-2
-    sub-if3
-    nothing-requires-3
+    (λ c. search needs)
+    (λ c κs. search needs)
     returns-3
-    add-to
+    (λ c. search needs)
     returns-4)

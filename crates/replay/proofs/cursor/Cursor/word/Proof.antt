@@ -7,15 +7,6 @@ use Rattle.replay.specs.Cursors.{wordAt}
 use Rattle.replay.proofs.cursor.Cursor.word.Statement.{statement}
 use Rattle.replay.proofs.cursor.Cursor.word.Tie as tie
 
-take-requires : tie.Need-take-requires
-take-requires c κs = search needs
-
-mul-t7 : tie.Need-mul-t7
-mul-t7 c = search needs
-
-shared-slice-read-t9 : tie.Need-shared-slice-read-t9
-shared-slice-read-t9 c = search needs
-
 returns : tie.Need-returns
 unfolding wordAt
 returns c = (simp (sym (c .before .before .before .before .take .ensures .0), lt-ltb _ _ (c .before .if1 .taken)), omega arith)
@@ -25,4 +16,4 @@ unfolding wordAt
 returns-2 c = (simp (sym (c .before .before .before .take .ensures .0), le-ltb _ _ (c .if1 .left)), omega arith)
 
 pub word-spec : {M : Type 1} → statement M
-word-spec = tie.close (tie.spec take-requires mul-t7 shared-slice-read-t9 returns returns-2)
+word-spec = tie.close (tie.spec (λ c κs. search needs) (λ c. search needs) (λ c. search needs) returns returns-2)

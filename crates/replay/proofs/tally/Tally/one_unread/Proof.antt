@@ -3,11 +3,8 @@ use borrow.Author.Needs.{needs}
 use Rattle.replay.proofs.tally.Tally.one_unread.Statement.{statement}
 use Rattle.replay.proofs.tally.Tally.one_unread.Tie as tie
 
-wrapping-add-u64-requires : tie.Need-wrapping-add-u64-requires
-wrapping-add-u64-requires c κs = search needs
-
 returns : tie.Need-returns
 returns c = simp (c .wrapping-add-u64 .ensures)
 
 pub one-unread-spec : {M : Type 1} → statement M
-one-unread-spec = tie.close (tie.spec wrapping-add-u64-requires returns)
+one-unread-spec = tie.close (tie.spec (λ c κs. search needs) returns)
