@@ -143,25 +143,27 @@ no-nearer s square e n c r b f h u v =
     let last : le (getD (startsIn s) 5 none .distance) (root square) ≡ true = rw (getD-take (s .count) (s .at) 5 none l, ← e) h in
     (full-stays (startAt (root square) u v) none (startsIn s) r (omega arith) last, limit-at none (startsIn s) square r (omega arith) b f last)
 
--- ---- the surface point p at x and y, whose squared distance is q, is taken in after those of n
-module _ (mark p : Vector3) {q : Float} (e : q ≡ squareOf mark p) {n : Shortlist} (h : Sound n × Finite mark × Finite p) (x y : Float) where
-  abbrev TakenIn : Shortlist → Type 0
-  TakenIn m = (startsIn (m .starts) ≡ kept (startAt (distance p mark) x y) (startsIn (n .starts))) × Sound m
-
-  same-start : kept (startAt (root q) x y) (startsIn (n .starts)) ≡ kept (startAt (distance p mark) x y) (startsIn (n .starts))
-  same-start = rw (e, distance-is-root mark p)
-
-  pub left-out : le (n .limit) q ≡ true → TakenIn n
-  left-out l = (h .0 .limits q x y (rw e (square-fits mark p)) l ∙ same-start, h .0)
-
+-- ---- the surface point p, whose squared distance is q, is taken in after those of n
+module _ (mark p : Vector3) {q : Float} (e : q ≡ squareOf mark p) {n : Shortlist} (h : Sound n × Finite mark × Finite p) where
   pub keepable : (n .starts .count ≤ 6) × Rising (startsIn (n .starts)) × (lt q 0· ≡ false) × T (fits binary64 q)
   keepable = (h .0 .six, h .0 .rising, rw e (square-not-below mark p (h .1) (h .2)), rw e (square-fits mark p))
 
-  pub put-in : {m : Shortlist} → (startsIn (m .starts) ≡ kept (startAt (root q) x y) (startsIn (n .starts))) × (m .starts .count ≤ 6) × Limits (m .limit) (startsIn (m .starts)) → TakenIn m
-  put-in k =
-      let t = k .0 ∙ same-start in
-      let number = nonneg→number (distance-number p mark (h .2) (h .1)) in
-      (t, record { six = k .1; rising = rw t (kept-rising (startAt (distance p mark) x y) number (h .0 .rising)); limits = k .2 })
+  module _ (x y : Float) where
+    abbrev TakenIn : Shortlist → Type 0
+    TakenIn m = (startsIn (m .starts) ≡ kept (startAt (distance p mark) x y) (startsIn (n .starts))) × Sound m
+
+    same-start : kept (startAt (root q) x y) (startsIn (n .starts)) ≡ kept (startAt (distance p mark) x y) (startsIn (n .starts))
+    same-start = rw (e, distance-is-root mark p)
+
+    -- left out, since the root is monotone
+    pub left-out : le (n .limit) q ≡ true → TakenIn n
+    left-out l = (h .0 .limits q x y (rw e (square-fits mark p)) l ∙ same-start, h .0)
+
+    pub put-in : {m : Shortlist} → (startsIn (m .starts) ≡ kept (startAt (root q) x y) (startsIn (n .starts))) × (m .starts .count ≤ 6) × Limits (m .limit) (startsIn (m .starts)) → TakenIn m
+    put-in k =
+        let t = k .0 ∙ same-start in
+        let number = nonneg→number (distance-number p mark (h .2) (h .1)) in
+        (t, record { six = k .1; rising = rw t (kept-rising (startAt (distance p mark) x y) number (h .0 .rising)); limits = k .2 })
 
 -- an array of structs, as long as what is known of it
 pub unmapped : (X Y : Type 0) (f : X → Y) (l : List X) (n : ℕ) → length (map f l) ≡ n → length l ≡ n

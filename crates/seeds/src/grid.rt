@@ -4,8 +4,9 @@ use crate::Node;
 use crate::Shortlist;
 use crate::Values;
 use crate::Walked;
+use crate::insertion::keep;
 use crate::insertion::no_starts;
-use crate::insertion::take_in;
+use crate::insertion::square_of;
 use crate::table::fill_table;
 use crate::table::first_of;
 use crate::table::point_at;
@@ -47,7 +48,6 @@ pub fn walk(
     requires { ⌜ Accepts (surfaceOf (accepted .shape) ku kv controls weights) accepted × (us .count ≤ 193) × (vs .count ≤ 193) × Finite mark ⌝ }
     ensures { λ r. ⌜ (walkedOf r ≡ spend budget (mapped startsOf (survey mark (evaluateBy (atEntry (accepted .shape) ku kv controls weights) (accepted .largest)) (listed us) (listed vs)))) × (r .starts .count ≤ 6) ⌝ }
 {
-    let shape = accepted.shape;
     let bounded = accepted.bounded;
     let u_at = us.at;
     let v_at = vs.at;
@@ -55,14 +55,14 @@ pub fn walk(
     let columns = vs.count;
     let mut table = [[0.0f64; 18]; 193];
     let mut firsts = [0usize; 193];
-    fill_table(kv, shape.v, bounded, vs, &mut table, &mut firsts);
+    fill_table(kv, accepted.shape.v, bounded, vs, &mut table, &mut firsts);
     let mut net = [0.0f64; 289];
     let mut taken: u64 = 0;
     let mut shortlist = no_starts();
     for i in 0..rows {
         let u = u_at[i];
         let mut values = [0.0f64; 18];
-        let row = first_of(ku, shape.u, bounded, u, &mut values);
+        let row = first_of(ku, accepted.shape.u, bounded, u, &mut values);
         let mut weighed: usize = 0;
         for j in 0..columns {
             if taken == budget {
@@ -92,7 +92,10 @@ pub fn walk(
                 return walked(9, taken, shortlist);
             };
             weighed = column;
-            shortlist = take_in(shortlist, mark, point, u, v);
+            let square = square_of(mark, point);
+            if !(shortlist.limit <= square) {
+                shortlist = keep(shortlist.starts, square, u, v);
+            }
         }
     }
     walked(0, taken, shortlist)

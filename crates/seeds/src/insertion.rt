@@ -15,8 +15,6 @@ ghost use lib.ListN.{take};
 ghost use lib.Ieee.{binary64, fits, lt};
 ghost use Rattle.float64.specs.Operators.{0·};
 ghost use Rattle.float64.specs.Functions.{root};
-ghost use Rattle.vector3.specs.Vector3.{distance};
-ghost use Rattle.vector3.specs.Laws.{Finite};
 ghost use Rattle.seeds.specs.Grid.{startAt};
 ghost use Rattle.seeds.specs.Insert.{startsIn, Rising, Limits, Sound, kept, placeIn, spliced};
 ghost use Rattle.seeds.specs.LimitLaws.{squareOf};
@@ -93,7 +91,7 @@ fn enter(s: Starts, x: Start) -> Starts
 }
 
 // The point at u and v put in, by the square of its distance. One that is no nearer than the last of six changes nothing, and no more do those from there on.
-fn keep(s: Starts, square: f64, u: f64, v: f64) -> Shortlist
+pub(crate) fn keep(s: Starts, square: f64, u: f64, v: f64) -> Shortlist
     requires { ⌜ (s .count ≤ 6) × Rising (startsIn s) × (lt square 0· ≡ false) × T (fits binary64 square) ⌝ }
     ensures { λ r. ⌜ (startsIn (r .starts) ≡ kept (startAt (root square) u v) (startsIn s)) × (r .starts .count ≤ 6) × Limits (r .limit) (startsIn (r .starts)) ⌝ }
 {
@@ -115,27 +113,9 @@ fn keep(s: Starts, square: f64, u: f64, v: f64) -> Shortlist
 }
 
 // The square of a point's distance.
-fn square_of(mark: Vector3, point: Vector3) -> f64
+pub(crate) fn square_of(mark: Vector3, point: Vector3) -> f64
     ensures { λ r. ⌜ r ≡ squareOf mark point ⌝ }
 {
     let away = sub(point, mark);
     dot(away, away)
-}
-
-// The surface point at u and v put in; where its square is not below the limit its root is not taken.
-pub(crate) fn take_in(
-    shortlist: Shortlist,
-    mark: Vector3,
-    point: Vector3,
-    u: f64,
-    v: f64,
-) -> Shortlist
-    requires { ⌜ Sound shortlist × Finite mark × Finite point ⌝ }
-    ensures { λ r. ⌜ (startsIn (r .starts) ≡ kept (startAt (distance point mark) u v) (startsIn (shortlist .starts))) × Sound r ⌝ }
-{
-    let square = square_of(mark, point);
-    if shortlist.limit <= square {
-        return shortlist;
-    }
-    keep(shortlist.starts, square, u, v)
 }

@@ -107,11 +107,10 @@ pub(crate) fn point_at(
     ensures { λ r. ⌜ r ≡ located (evaluateBy (atEntry (accepted .shape) ku kv controls weights) (accepted .largest) (node .u) (node .v)) ⌝ }
     ensures { λ _. ⌜ NetFor accepted (now (weights .entry)) (node .row) (node .column) (now (net .exit)) ⌝ }
 {
-    let shape = accepted.shape;
     if (node.row != 0) & (node.column != 0) {
         reweigh(accepted, weights, node, net);
         let sum = sum_over(
-            shape,
+            accepted.shape,
             controls,
             &*net,
             us,
@@ -124,7 +123,7 @@ pub(crate) fn point_at(
         }
     }
     located(surface_jet(
-        shape,
+        accepted.shape,
         ku,
         kv,
         controls,

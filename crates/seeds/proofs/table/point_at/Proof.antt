@@ -13,7 +13,7 @@ use Rattle.seeds.proofs.table.point_at.Statement.{statement}
 use Rattle.seeds.proofs.table.point_at.Tie as tie
 
 abbrev start : tie.After-struct-known2 → tie.Start
-start c = c .before .before .before .before .before .before .before
+start c = c .before .before .before .before .before .before
 
 -- the surface that is lent
 abbrev of : tie.Start → Surface
