@@ -17,13 +17,15 @@ use Rattle.newton.specs.declared.Outcome.{Outcome}
 use Rattle.newton.specs.declared.Outcome.the-variants.{Ended, Refused, Spent}
 use Rattle.newton.specs.Run.{run, outcomeOf}
 use Rattle.newton.specs.OutcomeLaws.{ended-told, refused-told, short-told, spent-back, refused-back, ended-back}
-use Rattle.seeds.specs.declared.Values.{Values}
-use Rattle.seeds.specs.declared.Start.{Start}
+use Rattle.grid.specs.declared.Values.{Values}
+use Rattle.shortlist.specs.declared.Start.{Start}
 use Rattle.seeds.specs.declared.Walked.{Walked}
-use Rattle.seeds.specs.Axis.{valuesOf}
-use Rattle.seeds.specs.Grid.{survey, startsOf}
-use Rattle.seeds.specs.Insert.{startsIn}
-use Rattle.seeds.specs.Walk.{listed, walkedOf}
+use Rattle.grid.specs.Axis.{valuesOf}
+use Rattle.shortlist.specs.FirstSix.{startsOf}
+use Rattle.seeds.specs.Grid.{survey}
+use Rattle.shortlist.specs.Insert.{startsIn}
+use Rattle.grid.specs.Axis.{listed}
+use Rattle.seeds.specs.Walk.{walkedOf}
 use Rattle.inversion.specs.declared.Hint.{Hint}
 use Rattle.inversion.specs.declared.Hint.the-variants as Hint
 use Rattle.inversion.specs.declared.Best.{Best}

@@ -19,8 +19,8 @@ use Rattle.newton.specs.declared.Outcome.{Outcome}
 use Rattle.newton.specs.declared.Outcome.the-variants.{Ended, Refused, Spent}
 use Rattle.newton.specs.Run.{run, outcomeOf}
 use Rattle.newton.specs.OutcomeLaws.{ended-told, refused-told, short-told, spent-back, refused-back, ended-back}
-use Rattle.seeds.specs.declared.Start.{Start}
-use Rattle.seeds.specs.Grid.{startAt}
+use Rattle.shortlist.specs.declared.Start.{Start}
+use Rattle.shortlist.specs.FirstSix.{startAt}
 use Rattle.inversion.specs.declared.Best.{Best}
 use Rattle.inversion.specs.declared.Best.the-variants.{Nothing, At}
 use Rattle.inversion.specs.Inversion.{nearer, nearestEnd, led, choose, runs, searched, kept}

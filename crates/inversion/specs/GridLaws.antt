@@ -15,8 +15,9 @@ use Rattle.patch.specs.declared.Jet.{Jet}
 use Rattle.patch.specs.declared.Evaluated.{Evaluated}
 use Rattle.patch.specs.declared.Evaluated.the-variants.{Found, Refused}
 use Rattle.patch.specs.Patch.{fromMark}
-use Rattle.seeds.specs.declared.Start.{Start}
-use Rattle.seeds.specs.Grid.{startAt, seen, rowOf, survey, insert, sorted, apartFrom, apart, startsOf}
+use Rattle.shortlist.specs.declared.Start.{Start}
+use Rattle.shortlist.specs.FirstSix.{startAt, insert, sorted, apartFrom, apart, startsOf}
+use Rattle.seeds.specs.Grid.{seen, rowOf, survey}
 use Rattle.inversion.specs.Nearest.{All, all-at, all-map, Number, Nearest, here, there, nearest-member, nearest-least}
 
 -- ---- the walk

@@ -11,9 +11,10 @@ use Rattle.surface.specs.Surface.{Surface, axisU, axisV, evaluateBy}
 use Rattle.surface.specs.Intervals.{domainOf}
 use Rattle.newton.specs.declared.End.{End}
 use Rattle.newton.specs.Run.{run}
-use Rattle.seeds.specs.declared.Start.{Start}
-use Rattle.seeds.specs.Axis.{valuesOf}
-use Rattle.seeds.specs.Grid.{survey, startsOf}
+use Rattle.shortlist.specs.declared.Start.{Start}
+use Rattle.grid.specs.Axis.{valuesOf}
+use Rattle.shortlist.specs.FirstSix.{startsOf}
+use Rattle.seeds.specs.Grid.{survey}
 use Rattle.inversion.specs.declared.Hint.{Hint}
 use Rattle.inversion.specs.declared.Hint.the-variants as Hint
 use Rattle.inversion.specs.declared.Best.{Best}

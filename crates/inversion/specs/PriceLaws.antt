@@ -14,8 +14,9 @@ use Rattle.surface.specs.declared.Domain.{Domain}
 use Rattle.newton.specs.declared.End.{End}
 use Rattle.newton.specs.Run.{run}
 use Rattle.newton.specs.RunLaws.{run-count}
-use Rattle.seeds.specs.declared.Start.{Start}
-use Rattle.seeds.specs.Grid.{survey, startsOf}
+use Rattle.shortlist.specs.declared.Start.{Start}
+use Rattle.shortlist.specs.FirstSix.{startsOf}
+use Rattle.seeds.specs.Grid.{survey}
 use Rattle.inversion.specs.declared.Hint.{Hint}
 use Rattle.inversion.specs.declared.Hint.the-variants as Hint
 use Rattle.inversion.specs.declared.Best.{Best}

@@ -23,9 +23,9 @@ use Rattle.surface.specs.Intervals.{domainOf}
 use Rattle.newton.specs.declared.End.{End}
 use Rattle.newton.specs.Run.{clampInto, nudges}
 use Rattle.newton.specs.RunLaws.{Ends}
-use Rattle.seeds.specs.declared.Start.{Start}
-use Rattle.seeds.specs.Axis.{valuesOf}
-use Rattle.seeds.specs.AxisLaws.{axis-count}
+use Rattle.shortlist.specs.declared.Start.{Start}
+use Rattle.grid.specs.Axis.{valuesOf}
+use Rattle.grid.specs.AxisLaws.{axis-count}
 use Rattle.seeds.specs.Finite.{from-mark-number}
 use Rattle.inversion.specs.declared.Hint.{Hint}
 use Rattle.inversion.specs.Inversion.{led, inversionBy}

@@ -1,9 +1,9 @@
 // The grid over both axes, and the search from the starts in it.
 use crate::Lead;
 use crate::search::search;
+use grid::axis_values;
 use newton::Outcome;
 use scaled::Accepted;
-use seeds::axis_values;
 use seeds::walk;
 use vector3::Vector3;
 ghost use mathlib.Core.Path.{_≡_};

@@ -5,7 +5,7 @@ use newton::End;
 use newton::Outcome;
 use newton::run;
 use scaled::Accepted;
-use seeds::Starts;
+use shortlist::Starts;
 use vector3::Vector3;
 ghost use mathlib.Core.Path.{_≡_};
 ghost use mathlib.Core.List.{[]};
@@ -14,7 +14,7 @@ ghost use Rattle.price.specs.Price.{after, spend};
 ghost use Rattle.surface.specs.Surface.{evaluateBy};
 ghost use Rattle.surface.specs.Lent.{surfaceOf, atEntry};
 ghost use Rattle.scaled.specs.Accepted.{Accepts};
-ghost use Rattle.seeds.specs.Insert.{startsIn};
+ghost use Rattle.shortlist.specs.Insert.{startsIn};
 ghost use Rattle.newton.specs.Run.{outcomeOf};
 ghost use Rattle.inversion.specs.Inversion.{led, choose, searched, kept};
 

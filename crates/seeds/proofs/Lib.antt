@@ -1,4 +1,2 @@
-pub mod AxisSteps
-pub mod Places
 pub mod TableSteps
 pub mod WalkSteps

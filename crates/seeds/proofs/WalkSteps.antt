@@ -17,13 +17,14 @@ use Rattle.patch.specs.declared.Jet.{Jet}
 use Rattle.patch.specs.declared.Evaluated.{Evaluated}
 use Rattle.patch.specs.declared.Evaluated.the-variants.{Found, Refused}
 use Rattle.patch.specs.Patch.{fromMark}
-use Rattle.seeds.specs.declared.Start.{Start}
-use Rattle.seeds.specs.declared.Shortlist.{Shortlist}
+use Rattle.shortlist.specs.declared.Start.{Start}
+use Rattle.shortlist.specs.declared.Shortlist.{Shortlist}
 use Rattle.seeds.specs.declared.Walked.{Walked}
-use Rattle.seeds.specs.Grid.{startAt, seen, rowOf, survey, startsOf}
+use Rattle.shortlist.specs.FirstSix.{startAt, startsOf}
+use Rattle.seeds.specs.Grid.{seen, rowOf, survey}
 use Rattle.seeds.specs.GridLaws.{survey-surveys}
-use Rattle.seeds.specs.Insert.{startsIn, Sound, kept, keptFrom}
-use Rattle.seeds.specs.StartLaws.{Numbers, none, more, starts-are-first-six}
+use Rattle.shortlist.specs.Insert.{startsIn, Sound, kept, keptFrom}
+use Rattle.shortlist.specs.StartLaws.{Numbers, none, more, starts-are-first-six}
 use Rattle.seeds.specs.Walk.{walkedOf}
 
 -- ---- a survey after n evaluations, where ss are kept and the rest is to be seen

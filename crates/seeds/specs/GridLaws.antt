@@ -9,8 +9,9 @@ use Rattle.patch.specs.declared.Jet.{Jet}
 use Rattle.patch.specs.declared.Evaluated.{Evaluated}
 use Rattle.patch.specs.declared.Evaluated.the-variants.{Found, Refused}
 use Rattle.patch.specs.Patch.{fromMark}
-use Rattle.seeds.specs.declared.Start.{Start}
-use Rattle.seeds.specs.Grid.{startAt, seen, rowOf, survey}
+use Rattle.shortlist.specs.declared.Start.{Start}
+use Rattle.shortlist.specs.FirstSix.{startAt}
+use Rattle.seeds.specs.Grid.{seen, rowOf, survey}
 
 -- P holds of no points, and with one more that is found
 module _ (mark : Vector3) (eval : Float → Float → Evaluated) (P : List Start → Type 0)

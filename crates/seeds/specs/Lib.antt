@@ -1,10 +1,5 @@
-pub mod Axis
-pub mod AxisLaws
 pub mod Grid
 pub mod GridLaws
-pub mod Insert
-pub mod StartLaws
-pub mod LimitLaws
 pub mod Table
 pub mod Walk
 pub mod Finite

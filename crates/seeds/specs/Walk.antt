@@ -1,17 +1,11 @@
--- What a walk of the grid answers, over what values. Definitions only.
+-- What a walk of the grid answers. Definitions only.
 use mathlib.Core.Bool.{cond}
 use mathlib.Core.List.{List}
 use lib.Dec.{eqb}
-use lib.ListN.{take}
-use lib.Ieee.{Float}
 use Rattle.price.specs.Price.{refused, answered, Paid, spent, paid}
-use Rattle.seeds.specs.declared.Values.{Values}
-use Rattle.seeds.specs.declared.Start.{Start}
+use Rattle.shortlist.specs.declared.Start.{Start}
 use Rattle.seeds.specs.declared.Walked.{Walked}
-use Rattle.seeds.specs.Insert.{startsIn}
-
-abbrev pub listed : Values → List Float
-listed vs = take (vs .count) (vs .at)
+use Rattle.shortlist.specs.Insert.{startsIn}
 
 -- by its number
 unfoldable pub walkedOf : Walked → Paid (List Start)

@@ -1,7 +1,7 @@
 // The values of the functions at the grid's values, worked out once: those of v for the whole grid, those of u for a row.
 use crate::Located;
 use crate::Node;
-use crate::Values;
+use grid::Values;
 use patch::Evaluated;
 use patch::point;
 use scaled::Accepted;

@@ -6,7 +6,7 @@ use lib.ListN.{length, take}
 use borrow.Author.Needs.{needs}
 use Rattle.price.specs.Price.{after}
 use Rattle.surface.specs.Surface.{surface, evaluateBy}
-use Rattle.seeds.proofs.Places.{unmapped}
+use Rattle.shortlist.proofs.Places.{unmapped}
 use Rattle.inversion.specs.Inversion.{searched}
 use Rattle.inversion.proofs.SearchSteps.{Stands, run-fits, end-fits, search-ends, search-spent, search-refused, search-goes}
 use Rattle.inversion.proofs.search.search.Statement.{statement}

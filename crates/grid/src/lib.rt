@@ -1,0 +1,148 @@
+// The grid's values on an axis of accepted knots: every knot span of the domain in eighths.
+use surface::eighth;
+ghost use mathlib.Core.Path.{_≡_};
+ghost use mathlib.Core.Bool.{not, _&&_};
+ghost use mathlib.Core.List.{[], _∷_, _++_};
+ghost use Prim.Native.Nat.{_+_, _≤_, _<_};
+ghost use lib.ListN.{length, take};
+ghost use lib.Ieee.{lt, eq};
+ghost use Rattle.spline.specs.Knots.{axis, refusalOfKnots};
+ghost use Rattle.grid.specs.Axis.{distinct, every, stride, eighths, between, valuesOf, listed};
+ghost use Rattle.grid.specs.AxisLaws.{inDomain, breaksWithin, Sorted};
+
+// The breaks of an axis from which its values are made, and the values themselves.
+pub struct Breaks {
+    pub at: [f64; 25],
+    pub count: usize,
+}
+
+pub struct Values {
+    pub at: [f64; 193],
+    pub count: usize,
+}
+
+// A knot of the domain that differs from the break before it.
+fn is_break(low: f64, high: f64, last: f64, t: f64) -> bool
+    ensures { λ r. ⌜ r ≡ (inDomain low high t && not (eq last t)) ⌝ }
+{
+    low <= t && t <= high && !(last == t)
+}
+
+// Before the first break stands a NaN, which nothing equals.
+fn count_breaks(knots: &[f64], low: f64, high: f64) -> usize
+    ensures { λ r. ⌜ (r ≡ length (breaksWithin low high (now (knots .entry)))) × (r ≤ length (now (knots .entry))) ⌝ }
+{
+    let mut last = 0.0 / 0.0;
+    let mut count: usize = 0;
+    for i in 0..knots.len() {
+        let t = knots[i];
+        if is_break(low, high, last, t) {
+            last = t;
+            count += 1;
+        }
+    }
+    count
+}
+
+fn stride(count: usize) -> usize
+    requires { ⌜ count ≤ 200000 ⌝ }
+    ensures { λ r. ⌜ r ≡ stride count ⌝ }
+{
+    let n = (count + 23) / 24;
+    if n < 1 {
+        return 1;
+    }
+    n
+}
+
+fn add_break(b: Breaks, t: f64) -> Breaks
+    requires { ⌜ b .count < 25 ⌝ }
+    ensures { λ r. ⌜ (take (r .count) (r .at) ≡ take (b .count) (b .at) ++ (t ∷ [])) × (r .count ≡ b .count + 1) ⌝ }
+{
+    let mut at = b.at;
+    let count = b.count;
+    at[count] = t;
+    Breaks {
+        at,
+        count: count + 1,
+    }
+}
+
+// The first break, and then with so many skipped before each.
+fn thin(knots: &[f64], low: f64, high: f64, skip: usize) -> Breaks
+    requires { ⌜ length (every skip 0 (breaksWithin low high (now knots))) ≤ 24 ⌝ }
+    ensures { λ r. ⌜ (take (r .count) (r .at) ≡ every skip 0 (breaksWithin low high (now (knots .entry)))) × (r .count ≡ length (take (r .count) (r .at))) ⌝ }
+{
+    let mut out = Breaks {
+        at: [0.0; 25],
+        count: 0,
+    };
+    let mut last = 0.0 / 0.0;
+    let mut left: usize = 0;
+    for i in 0..knots.len() {
+        let t = knots[i];
+        if is_break(low, high, last, t) {
+            last = t;
+            if left == 0 {
+                out = add_break(out, t);
+                left = skip;
+            } else {
+                left -= 1;
+            }
+        }
+    }
+    out
+}
+
+// The domain's end after breaks that rise, unless the last of them equals it.
+fn closed(b: Breaks, end: f64) -> Breaks
+    requires { ⌜ (0 < b .count) × (b .count < 25) × Sorted lt (take (b .count) (b .at)) ⌝ }
+    ensures { λ r. ⌜ (take (r .count) (r .at) ≡ distinct (take (b .count) (b .at) ++ (end ∷ []))) × (0 < r .count) × (r .count ≤ 25) ⌝ }
+{
+    let at = b.at;
+    let count = b.count;
+    if at[count - 1] == end {
+        return b;
+    }
+    add_break(b, end)
+}
+
+// The eighths from x to y, from the place n on.
+fn put_eighths(at: &mut [f64; 193], n: usize, x: f64, y: f64)
+    requires { ⌜ (n + 8 ≤ 193) × (length (now at) ≡ 193) ⌝ }
+    ensures { λ r. ⌜ (take (n + 8) (now (at .exit)) ≡ take n (now (at .entry)) ++ eighths 8 0 x y) × (length (now (at .exit)) ≡ 193) ⌝ }
+{
+    for j in 0..8usize {
+        at[n + j] = eighth(x, y, j);
+    }
+}
+
+fn in_eighths(b: Breaks, end: f64) -> Values
+    requires { ⌜ (0 < b .count) × (b .count ≤ 25) ⌝ }
+    ensures { λ r. ⌜ (listed r ≡ between (take (b .count) (b .at)) ++ (end ∷ [])) × (r .count ≤ 193) ⌝ }
+{
+    let breaks = b.at;
+    let count = b.count;
+    let mut at = [0.0; 193];
+    let mut n: usize = 0;
+    let mut x = breaks[0];
+    for i in 1..count {
+        let y = breaks[i];
+        put_eighths(&mut at, n, x, y);
+        n += 8;
+        x = y;
+    }
+    at[n] = end;
+    Values { at, count: n + 1 }
+}
+
+pub fn axis_values(knots: &[f64], degree: usize, controls: usize) -> Values
+    requires { ⌜ refusalOfKnots (axis degree controls (now knots)) ≡ 0 ⌝ }
+    ensures { λ r. ⌜ (listed r ≡ valuesOf (axis degree controls (now (knots .entry)))) × (r .count ≤ 193) ⌝ }
+{
+    let low = knots[degree];
+    let high = knots[controls];
+    let step = stride(count_breaks(knots, low, high));
+    let breaks = closed(thin(knots, low, high, step - 1), high);
+    in_eighths(breaks, high)
+}

@@ -1,0 +1,5 @@
+pub mod FirstSix
+pub mod Insert
+pub mod StartLaws
+pub mod LimitLaws
+pub mod Compute
