@@ -105,6 +105,24 @@ module _ (mark : Vector3) (eval : Float → Float → Evaluated) where
   survey-meets x y j p (z ∷ us) vs (List·Memᴰ·head e) m = rw (← e) (rowOf-meets x y j p vs (survey mark eval us vs) m)
   survey-meets x y j p (z ∷ us) vs (List·Memᴰ·tail l) m = rowOf-sees _ (onward x y j) z vs _ (survey-meets x y j p us vs l m)
 
+  -- where no evaluation of the walk refuses, none of the grid does
+  rowOf-refuses : (x y : Float) → eval x y ≡ Refused → (ys : List Float) (below : Priced (List Start)) → List·Memᴰ y ys → Sees (λ ps. ⊥) (rowOf mark eval x ys below)
+  unfolding rowOf seen
+  rowOf-refuses x y p (z ∷ ys) below (List·Memᴰ·head e) = rw (← e) (rw p tt)
+  rowOf-refuses x y p (z ∷ ys) below (List·Memᴰ·tail m) = seen-sees (λ ps. ⊥) (λ q s ps h. h) _ x z (eval x z) refl (rowOf-refuses x y p ys below m)
+
+  survey-refuses : (x y : Float) → eval x y ≡ Refused → (us vs : List Float) → List·Memᴰ x us → List·Memᴰ y vs → Sees (λ ps. ⊥) (survey mark eval us vs)
+  unfolding survey
+  survey-refuses x y p (z ∷ us) vs (List·Memᴰ·head e) m = rw (← e) (rowOf-refuses x y p vs (survey mark eval us vs) m)
+  survey-refuses x y p (z ∷ us) vs (List·Memᴰ·tail l) m = rowOf-sees (λ ps. ⊥) (λ q s ps h. h) z vs _ (survey-refuses x y p us vs l m)
+
+  pub survey-found : (us vs : List Float) (ps : List Start) (n : ℕ) → survey mark eval us vs ≡ answered ps n → (x y : Float) → List·Memᴰ x us → List·Memᴰ y vs → (j : Jet) × (eval x y ≡ Found j)
+  survey-found us vs ps n w x y mx my = by (eval x y) refl
+    where
+      by : (e : Evaluated) → eval x y ≡ e → (j : Jet) × (eval x y ≡ Found j)
+      by (Found j) p = (j, p)
+      by Refused p = absurd (rw w at (survey-refuses x y p us vs mx my))
+
 -- ---- the starts
 
 pub starts-six : (ps : List Start) → length (startsOf ps) ≤ 6

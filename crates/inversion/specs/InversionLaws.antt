@@ -28,7 +28,7 @@ use Rattle.inversion.specs.declared.Best.{Best}
 use Rattle.inversion.specs.declared.Best.the-variants.{Nothing, At}
 use Rattle.inversion.specs.Inversion.{nearer, nearestEnd, led, choose, runs, searched, explored, unlessClose, hinted, plainSteps}
 use Rattle.inversion.specs.Nearest.{All, all-at, all-map, Number, Nearest, here, there, nearest-member, nearest-least, First, nearest-first, nearest-front, nearest-second, nearest-only}
-use Rattle.inversion.specs.GridLaws.{Counted, Seen, away, Fronted, survey-counted, survey-seen, survey-meets, starts-some, starts-fronted}
+use Rattle.inversion.specs.GridLaws.{Counted, Seen, away, Fronted, survey-counted, survey-seen, survey-meets, survey-found, starts-some, starts-fronted}
 
 -- ---- the nearest of ends
 
@@ -127,6 +127,18 @@ module _ (d : Domain) (mark : Vector3) (eval : Float → Float → Evaluated) wh
       pub ran : Ran (startsOf points) others made
       pub picked : Picked (led lead others) e
       pub price : n ≡ 2 * leadMade + length us * length vs + made
+
+    -- a grid point that is at least as far as an end
+    pub record AsFar (e : End) (u v : Float) : Type 0 where
+      pub jet : Jet
+      pub found : eval u v ≡ Found jet
+      pub far : le (e .distance) (fromMark mark jet) ≡ true
+
+    -- the nearest of the grid's points, the first among equals; unless the run from it was nudged, every point of the grid is at least as far as the end
+    pub record NoNearer (points : List Start) (e : End) : Type 0 where
+      pub nearest : Start
+      pub first : First away nearest points
+      pub beyond : nudges d mark eval (nearest .u) (nearest .v) ≡ false → (u v : Float) → List·Memᴰ u us → List·Memᴰ v vs → AsFar e u v
 
     -- a pair is the end of the hint's run, within tolerance, or it is chosen
     pub data Paired (tolerance : Float) : Hint → End → ℕ → Type 0 where
@@ -264,14 +276,36 @@ module _ (d : Domain) (mark : Vector3) (eval : Float → Float → Evaluated) wh
         led-member Nothing m = m
         led-member (At e) m = List·Memᴰ·tail m
 
-        -- "In the second case every grid point is at least as far as the pair, unless the run from the nearest, the first in the grid among equals, was nudged."
-        pub grid-no-nearer : {tolerance : Float} {hint : Hint} {e : End} {n : ℕ} (c : Chosen tolerance hint e n) (s : Start) → Nearest away s (c .points)
-            → nudges d mark eval (s .u) (s .v) ≡ false → (u v : Float) → List·Memᴰ u us → List·Memᴰ v vs → (j : Jet) → eval u v ≡ Found j
-            → le (far e) (fromMark mark j) ≡ true
-        grid-no-nearer {e = e} c s h k u v mu mv j p =
-            let seen = rw (c .whole) at (survey-seen mark eval us vs) in
-            let known = all-map (Seen mark eval) (Number away) (λ q r. rw (r .distance) (number (q .u) (q .v) (r .jet) (r .found))) (c .points) seen in
-            let f = nearest-descends (c .points) (startsOf (c .points)) (c .others) (c .made) seen (starts-fronted (c .points) known) (c .ran) s h k in
-            let point = rw (c .whole) at (survey-meets mark eval u v j p us vs mu mv) in
-            le-trans (far e) (far (f .0)) (fromMark mark j) (all-at _ (end-least c) (led-member (c .lead) (f .1)))
-            (le-trans (far (f .0)) (s .distance) (fromMark mark j) (f .2) (all-at _ (nearest-least away (all-at (Number away) known (nearest-member away h)) h) point))
+        nearest-start : (ps ss : List Start) → Fronted ps ss → 1 ≤ length ss → (s : Start) × Nearest away s ps
+        nearest-start ps [] f h = absurd (omega arith)
+        nearest-start ps (q ∷ qs) f h = (q, f)
+
+        module _ {tolerance : Float} {hint : Hint} {e : End} {n : ℕ} (c : Chosen tolerance hint e n) where
+          seen : All (Seen mark eval) (c .points)
+          seen = rw (c .whole) at (survey-seen mark eval us vs)
+
+          known : All (Number away) (c .points)
+          known = all-map (Seen mark eval) (Number away) (λ q r. rw (r .distance) (number (q .u) (q .v) (r .jet) (r .found))) (c .points) seen
+
+          from-nearest : (s : Start) → Nearest away s (c .points) → nudges d mark eval (s .u) (s .v) ≡ false → (u v : Float) → List·Memᴰ u us → List·Memᴰ v vs → AsFar e u v
+          from-nearest s h k u v mu mv =
+              let f = nearest-descends (c .points) (startsOf (c .points)) (c .others) (c .made) seen (starts-fronted (c .points) known) (c .ran) s h k in
+              let a = f .0 in
+              let least = nearest-least away (all-at (Number away) known (nearest-member away h)) h in
+              let g = survey-found mark eval us vs (c .points) (length us * length vs) (c .whole) u v mu mv in
+              let j = g .0 in
+              let point = rw (c .whole) at (survey-meets mark eval u v j (g .1) us vs mu mv) in
+              record {
+                jet = j;
+                found = g .1;
+                far = le-trans (far e) (far a) (fromMark mark j) (all-at _ (end-least c) (led-member (c .lead) (f .1)))
+                (le-trans (far a) (s .distance) (fromMark mark j) (f .2) (all-at _ least point));
+              }
+
+          -- "In the second case every grid point is at least as far as the pair, unless the run from the nearest, the first in the grid among equals, was nudged."
+          pub grid-no-nearer : 1 ≤ length us → 1 ≤ length vs → NoNearer (c .points) e
+          grid-no-nearer hu hv =
+              let count = rw (c .whole) at (survey-counted mark eval us vs) in
+              let some : 1 ≤ length us * length vs = mul-le-mul hu hv in
+              let s = nearest-start (c .points) (startsOf (c .points)) (starts-fronted (c .points) known) (starts-some (c .points) (omega (arith, count .0))) in
+              record { nearest = s .0; first = nearest-first away (s .1); beyond = from-nearest (s .0) (s .1) }

@@ -1,7 +1,7 @@
 -- Demand 3 on a surface that passed its checks and a finite mark: what the laws for any evaluation ask of it holds. Assumes nothing.
 use mathlib.Core.Path.{_≡_}
 use mathlib.Core.Bool.{Bool, true, false}
-use mathlib.Core.List.{List·Memᴰ}
+use mathlib.Core.List.{List}
 use Prim.Native.Nat.{ℕ}
 use native.Mathlib.Omega.{arith}
 use lib.ListN.{length}
@@ -21,7 +21,7 @@ use Rattle.surface.specs.SurfaceLaws.{accepted-surface}
 use Rattle.surface.specs.EvaluateLaws.{evaluate-numbers, evaluate-clamped}
 use Rattle.surface.specs.Intervals.{domainOf}
 use Rattle.newton.specs.declared.End.{End}
-use Rattle.newton.specs.Run.{clampInto, nudges}
+use Rattle.newton.specs.Run.{clampInto}
 use Rattle.newton.specs.RunLaws.{Ends}
 use Rattle.shortlist.specs.declared.Start.{Start}
 use Rattle.grid.specs.Axis.{valuesOf}
@@ -29,11 +29,10 @@ use Rattle.grid.specs.AxisLaws.{axis-count}
 use Rattle.seeds.specs.Finite.{from-mark-number}
 use Rattle.inversion.specs.declared.Hint.{Hint}
 use Rattle.inversion.specs.Inversion.{led, inversionBy}
-use Rattle.inversion.specs.Nearest.{Nearest, First}
+use Rattle.inversion.specs.Nearest.{First}
 use Rattle.inversion.specs.PriceLaws as Prices
 use Rattle.inversion.specs.InversionLaws as Plain
 use Rattle.inversion.specs.InversionLaws.{far}
-use Rattle.inversion.specs.GridLaws.{away}
 
 -- an axis without the flag holds the pair in its knot domain
 abbrev pub InDomain : Bool → Axis → Float → Type 0
@@ -80,15 +79,19 @@ module _ (s : Surface) (m : Float) (ok : refusalOfSurface s ≡ 0) where
     abbrev pub Chosen : Float → Hint → End → ℕ → Type 0
     Chosen = Plain.Chosen (domainOf s) mark (evaluateBy s m) (valuesOf (axisU s)) (valuesOf (axisV s))
 
+    abbrev pub NoNearer : List Start → End → Type 0
+    NoNearer = Plain.NoNearer (domainOf s) mark (evaluateBy s m) (valuesOf (axisU s)) (valuesOf (axisV s))
+
     module _ {tolerance : Float} {hint : Hint} {e : End} {n : ℕ} (c : Chosen tolerance hint e n) where
       -- "Otherwise it is the nearest of the ends of the hint's run, if any, and of the runs from the first six .. ; the hint wins ties, then the earlier"
       pub nearest-end : First far e (led (c .lead) (c .others))
       nearest-end = Plain.ties (domainOf s) mark (evaluateBy s m) (valuesOf (axisU s)) (valuesOf (axisV s)) number c
 
       -- "every grid point is at least as far as the pair, unless the run from the nearest, the first in the grid among equals, was nudged"
-      pub grid-no-nearer : (p : Start) → Nearest away p (c .points) → nudges (domainOf s) mark (evaluateBy s m) (p .u) (p .v) ≡ false
-          → (u v : Float) → List·Memᴰ u (valuesOf (axisU s)) → List·Memᴰ v (valuesOf (axisV s)) → (j : Jet) → evaluateBy s m u v ≡ Found j → le (far e) (fromMark mark j) ≡ true
-      grid-no-nearer = Plain.grid-no-nearer (domainOf s) mark (evaluateBy s m) (valuesOf (axisU s)) (valuesOf (axisV s)) number clamped c
+      pub grid-no-nearer : NoNearer (c .points) e
+      grid-no-nearer =
+          let a = accepted-surface s ok in
+          Plain.grid-no-nearer (domainOf s) mark (evaluateBy s m) (valuesOf (axisU s)) (valuesOf (axisV s)) number clamped c (counted (axisU s) (a .knots-u) .above) (counted (axisV s) (a .knots-v) .above)
 
   -- the pair is the hint run's end within the tolerance, or it was chosen among the ends
   pub paired : (mark : Vector3) (hint : Hint) (tolerance : Float)
