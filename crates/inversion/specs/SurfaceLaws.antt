@@ -38,6 +38,17 @@ use Rattle.inversion.specs.InversionLaws.{far}
 abbrev pub InDomain : Bool → Axis → Float → Type 0
 InDomain periodic a t = periodic ≡ false → (le (low a) t ≡ true) × (le t (high a) ≡ true)
 
+-- on a surface whose largest weight is m: how a pair came about, how it was chosen where it is not the end of the hint's run, and what its distance is to those of the grid
+module _ (s : Surface) (m : Float) (mark : Vector3) where
+  abbrev pub Paired : Float → Hint → End → ℕ → Type 0
+  Paired = Plain.Paired (domainOf s) mark (evaluateBy s m) (valuesOf (axisU s)) (valuesOf (axisV s))
+
+  abbrev pub Chosen : Float → Hint → End → ℕ → Type 0
+  Chosen = Plain.Chosen (domainOf s) mark (evaluateBy s m) (valuesOf (axisU s)) (valuesOf (axisV s))
+
+  abbrev pub NoNearer : List Start → End → Type 0
+  NoNearer = Plain.NoNearer (domainOf s) mark (evaluateBy s m) (valuesOf (axisU s)) (valuesOf (axisV s))
+
 counted : (a : Axis) → refusalOfKnots a ≡ 0 → Between 1 (length (valuesOf a)) 193
 counted a ok = let c = axis-count a ok in record { above = omega (arith, c .0); under = c .1 }
 
@@ -75,26 +86,18 @@ module _ (s : Surface) (m : Float) (ok : refusalOfSurface s ≡ 0) where
     unfolding clampInto
     clamped u v j h = evaluate-clamped s m u v j h ok
 
-    -- how an inversion chose, where it did not take the hint run's end as it was
-    abbrev pub Chosen : Float → Hint → End → ℕ → Type 0
-    Chosen = Plain.Chosen (domainOf s) mark (evaluateBy s m) (valuesOf (axisU s)) (valuesOf (axisV s))
-
-    abbrev pub NoNearer : List Start → End → Type 0
-    NoNearer = Plain.NoNearer (domainOf s) mark (evaluateBy s m) (valuesOf (axisU s)) (valuesOf (axisV s))
-
-    module _ {tolerance : Float} {hint : Hint} {e : End} {n : ℕ} (c : Chosen tolerance hint e n) where
+    module _ {tolerance : Float} {hint : Hint} {e : End} {n : ℕ} (c : Chosen s m mark tolerance hint e n) where
       -- "Otherwise it is the nearest of the ends of the hint's run, if any, and of the runs from the first six .. ; the hint wins ties, then the earlier"
       pub nearest-end : First far e (led (c .lead) (c .others))
       nearest-end = Plain.ties (domainOf s) mark (evaluateBy s m) (valuesOf (axisU s)) (valuesOf (axisV s)) number c
 
       -- "every grid point is at least as far as the pair, unless the run from the nearest, the first in the grid among equals, was nudged"
-      pub grid-no-nearer : NoNearer (c .points) e
+      pub grid-no-nearer : NoNearer s m mark (c .points) e
       grid-no-nearer =
           let a = accepted-surface s ok in
           Plain.grid-no-nearer (domainOf s) mark (evaluateBy s m) (valuesOf (axisU s)) (valuesOf (axisV s)) number clamped c (counted (axisU s) (a .knots-u) .above) (counted (axisV s) (a .knots-v) .above)
 
   -- the pair is the hint run's end within the tolerance, or it was chosen among the ends
-  pub paired : (mark : Vector3) (hint : Hint) (tolerance : Float)
-      → Answers (Plain.Paired (domainOf s) mark (evaluateBy s m) (valuesOf (axisU s)) (valuesOf (axisV s)) tolerance hint) (inversionBy s m mark hint tolerance)
+  pub paired : (mark : Vector3) (hint : Hint) (tolerance : Float) → Answers (Paired s m mark tolerance hint) (inversionBy s m mark hint tolerance)
   unfolding inversionBy
   paired mark hint tolerance = Plain.plainSteps-paired (domainOf s) mark (evaluateBy s m) (valuesOf (axisU s)) (valuesOf (axisV s)) tolerance hint

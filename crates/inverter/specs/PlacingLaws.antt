@@ -1,7 +1,6 @@
 -- Demand 3 of the call itself: one price and one result whatever the budget; and what a shift by periods moves by. Assumes nothing.
 use mathlib.Core.Path.{_≡_, refl, ap, _∙_}
 use mathlib.Core.Bool.{Bool, true, false}
-use mathlib.Core.Logic.{_⊎_, inl, inr}
 use Prim.Native.Nat.{ℕ, zero, suc, _-_, _≤_, _<_}
 use native.Mathlib.Nat.{sub-self}
 use native.Mathlib.Omega.{arith}
@@ -31,60 +30,54 @@ use Rattle.inverter.specs.Inverter.{onChecked, placed}
 
 -- ---- the budget
 
--- how an answer depends on it
-pub record OnePrice (answer : ℕ → Placing) : Type 0 where
-  pub price : ℕ
+-- what an inversion answers to a budget, by its price and its result
+pub record OnePrice (answer : ℕ → Placing) (price : ℕ) (result : Placing) : Type 0 where
   pub bounds : Between 1 price 37513
-  -- a pair, or 9
-  pub result : Placing
-  pub number : (numberOf result ≡ 0) ⊎ (numberOf result ≡ 9)
   -- with the price or more the result, which takes exactly the price
   pub enough : (budget : ℕ) → price ≤ budget → (answer budget ≡ result) × (leftOf budget result ≡ budget - price)
   -- with less refusal 8 and 0 left
   pub short : (budget : ℕ) → budget < price → (numberOf (answer budget) ≡ 8) × (leftOf budget (answer budget) ≡ 0)
 
-module _ (terms : Terms) where
-  abbrev resultOf : Priced End → Placing
-  resultOf p = placingOf 0 terms (outcomeOf (paid p))
+-- 01's plain steps, with their price
+abbrev pub stepsOf : Surface → Vector3 → Terms → Priced End
+stepsOf s mark terms = inversionBy s (scaleOf s) mark (terms .hint) (terms .tolerance)
 
-  paid-result : (budget : ℕ) (p : Priced End) → placingOf budget terms (outcomeOf (paid p)) ≡ resultOf p
+-- their end, shifted by periods; or 9
+abbrev pub resultOf : Terms → Priced End → Placing
+resultOf terms (refused n) = Refusal 9 n
+resultOf terms (answered e n) = Pair (turned terms e) n
+
+module _ (terms : Terms) where
+  paid-result : (budget : ℕ) (p : Priced End) → placingOf budget terms (outcomeOf (paid p)) ≡ resultOf terms p
   unfolding placingOf outcomeOf
   paid-result budget (refused n) = refl
   paid-result budget (answered e n) = refl
 
-  result-number : (p : Priced End) → (numberOf (resultOf p) ≡ 0) ⊎ (numberOf (resultOf p) ≡ 9)
-  unfolding placingOf outcomeOf numberOf
-  result-number (refused n) = inr refl
-  result-number (answered e n) = inl refl
-
-  result-left : (budget : ℕ) (p : Priced End) → leftOf budget (resultOf p) ≡ budget - Price.price p
-  unfolding placingOf outcomeOf leftOf
+  result-left : (budget : ℕ) (p : Priced End) → leftOf budget (resultOf terms p) ≡ budget - Price.price p
+  unfolding leftOf
   result-left budget (refused n) = refl
   result-left budget (answered e n) = refl
 
   module _ (s : Surface) (ok : refusalOfSurface s ≡ 0) (mark : Vector3) (sound : soundSearch mark terms ≡ true) where
     abbrev steps : Priced End
-    steps = inversionBy s (scaleOf s) mark (terms .hint) (terms .tolerance)
+    steps = stepsOf s mark terms
 
-    answer-is : (budget : ℕ) → placed s mark terms budget ≡ placingOf budget terms (outcomeOf (spend budget steps))
+    pub answer-is : (budget : ℕ) → placed s mark terms budget ≡ placingOf budget terms (outcomeOf (spend budget steps))
     unfolding placed checked judged onChecked placedBy
     answer-is budget = simp (ok, sound)
 
-    answer-enough : (budget : ℕ) → Price.price steps ≤ budget → placed s mark terms budget ≡ resultOf steps
+    pub answer-enough : (budget : ℕ) → Price.price steps ≤ budget → placed s mark terms budget ≡ resultOf terms steps
     answer-enough budget h = answer-is budget ∙ ap (λ (p : Paid End). placingOf budget terms (outcomeOf p)) (spend-enough budget steps h) ∙ paid-result budget steps
 
-    answer-short : (budget : ℕ) → budget < Price.price steps → placed s mark terms budget ≡ Refusal 8 budget
+    pub answer-short : (budget : ℕ) → budget < Price.price steps → placed s mark terms budget ≡ Refusal 8 budget
     unfolding placingOf outcomeOf
     answer-short budget h = answer-is budget ∙ ap (λ (p : Paid End). placingOf budget terms (outcomeOf p)) (spend-short budget steps h)
 
-    -- "one price, .. 1 to 37,513, whatever its budget: with that much or more it gives the same result and takes exactly the price, with less refusal 8 and 0 left"
-    pub one-price : OnePrice (placed s mark terms)
+    -- "one price, .. 1 to 37,513, whatever its budget: with that much or more it gives the same result, that of 01's plain steps, and takes exactly the price, with less refusal 8 and 0 left"
+    pub one-price : OnePrice (placed s mark terms) (Price.price (stepsOf s mark terms)) (resultOf terms (stepsOf s mark terms))
     unfolding numberOf leftOf
     one-price = record {
-      price = Price.price steps;
       bounds = price-bounds s (scaleOf s) ok mark (terms .hint) (terms .tolerance);
-      result = resultOf steps;
-      number = result-number steps;
       enough = λ budget h. (answer-enough budget h, result-left budget steps);
       short = λ budget h. (ap numberOf (answer-short budget h), ap (leftOf budget) (answer-short budget h) ∙ sub-self budget);
     }

@@ -1,0 +1,96 @@
+-- Demand 3 of the call's own answer: what a pair is, before its shift by periods and after. Assumes nothing.
+use mathlib.Core.Path.{_≡_, refl}
+use mathlib.Core.Bool.{Bool, true, false, and-eq-true-iff}
+use Prim.Native.Nat.{ℕ, _≤_}
+use native.Mathlib.Omega.{arith}
+use lib.Dec.{leb}
+use lib.Ieee.{Float, le}
+use borrow.Author.Tests.{leb-true, leb-false}
+use Rattle.vector3.specs.declared.Vector3.{Vector3}
+use Rattle.vector3.specs.Laws.{Finite, vector-finite}
+use Rattle.surface.specs.Surface.{Surface, axisU, axisV, scaleOf, refusalOfSurface, evaluateBy}
+use Rattle.surface.specs.Intervals.{domainOf}
+use Rattle.grid.specs.Axis.{valuesOf}
+use Rattle.price.specs.Price.{Priced, refused, answered, price}
+use Rattle.newton.specs.declared.End.{End}
+use Rattle.newton.specs.Run.{run}
+use Rattle.inversion.specs.declared.Hint.{Hint}
+use Rattle.inversion.specs.declared.Hint.the-variants.{Nothing, At}
+use Rattle.inversion.specs.Inversion.{led, inversionBy}
+use Rattle.inversion.specs.Nearest.{First}
+use Rattle.inversion.specs.InversionLaws.{far, taken, among, hint-taken}
+use Rattle.inversion.specs.SurfaceLaws.{InDomain, Paired, Chosen, NoNearer, in-domain, nearest-end, grid-no-nearer, paired}
+use Rattle.chart.specs.declared.Terms.{Terms}
+use Rattle.chart.specs.declared.Placing.the-variants.{Pair, Refusal}
+use Rattle.chart.specs.Chart.{soundSearch, turned}
+use Rattle.inverter.specs.Inverter.{placed}
+use Rattle.inverter.specs.PlacingLaws.{stepsOf, resultOf, answer-enough, answer-short}
+
+module _ (s : Surface) (ok : refusalOfSurface s ≡ 0) (mark : Vector3) (terms : Terms) (sound : soundSearch mark terms ≡ true) where
+  finite : Finite mark
+  unfolding soundSearch
+  finite = vector-finite mark (and-eq-true-iff _ _ .0 sound .0)
+
+  -- a run on this surface
+  abbrev pub runFrom : Float → Float → Priced End
+  runFrom u v = run (domainOf s) mark (evaluateBy s (scaleOf s)) u v
+
+  -- "Otherwise it is the nearest of the ends of the hint's run, if any, and of the runs from the first six of the whole grid sorted by distance, equal distances dropped; the hint wins ties, then the earlier."
+  pub record Otherwise (e : End) (n : ℕ) : Type 0 where
+    pub chosen : Chosen s (scaleOf s) mark (terms .tolerance) (terms .hint) e n
+    pub nearest : First far e (led (chosen .lead) (chosen .others))
+    -- "In the second case every grid point is at least as far as the pair, unless the run from the nearest, the first in the grid among equals, was nudged."
+    pub grid : NoNearer s (scaleOf s) mark (chosen .points) e
+
+  pub data Source (e : End) (n : ℕ) : Type 0 where
+    -- "the hint run's end where that lies within tolerance"
+    hint-end : {u v : Float} → terms .hint ≡ At u v → runFrom u v ≡ answered e n → le (e .distance) (terms .tolerance) ≡ true → Source e n
+    otherwise : Otherwise e n → Source e n
+
+  -- a pair that the call answers with the units it took
+  pub record Shifted (e : End) (n : ℕ) : Type 0 where
+    -- the pair before the shift, which is that of the plain steps
+    pub before : End
+    pub steps : stepsOf s mark terms ≡ answered before n
+    pub shift : e ≡ turned terms before
+    pub source : Source before n
+    -- "Before that shift, axes without the periodic flag stay in their knot domain."
+    pub inside-u : InDomain (s .shape .u .periodic) (axisU s) (before .u)
+    pub inside-v : InDomain (s .shape .v .periodic) (axisV s) (before .v)
+
+  source-of : (hint : Hint) → terms .hint ≡ hint → {e : End} {n : ℕ} → Paired s (scaleOf s) mark (terms .tolerance) hint e n → Source e n
+  source-of hint h (taken p t) = hint-end h p t
+  source-of hint h (among c) =
+      let k = rw (← h) at c in
+      otherwise (record { chosen = k; nearest = nearest-end s (scaleOf s) ok mark finite k; grid = grid-no-nearer s (scaleOf s) ok mark finite k })
+
+  by-steps : (p : Priced End) → stepsOf s mark terms ≡ p → (e : End) (n : ℕ) → resultOf terms p ≡ Pair e n → Shifted e n
+  by-steps (refused k) w e n h = absurd (let z : _≡_ {A = ℕ} 0 1 = cc in omega arith)
+  by-steps (answered a k) w e n h =
+      let same : k ≡ n = cc in
+      let d = rw w at (in-domain s (scaleOf s) ok mark (terms .hint) (terms .tolerance)) in
+      record {
+        before = a;
+        steps = rw (← same) w;
+        shift = cc;
+        source = rw (← same) (source-of (terms .hint) refl (rw w at (paired s (scaleOf s) ok mark (terms .hint) (terms .tolerance))));
+        inside-u = d .0;
+        inside-v = d .1;
+      }
+
+  -- a pair is that of the plain steps, shifted
+  pub placed-pair : (budget : ℕ) (e : End) (n : ℕ) → placed s mark terms budget ≡ Pair e n → Shifted e n
+  placed-pair budget e n h = by (leb (price (stepsOf s mark terms)) budget) refl
+    where
+      by : (t : Bool) → leb (price (stepsOf s mark terms)) budget ≡ t → Shifted e n
+      by true l = by-steps (stepsOf s mark terms) refl e n (rw (answer-enough terms s ok mark sound budget (leb-true _ _ l)) at h)
+      by false l = absurd (let g = rw (answer-short terms s ok mark sound budget (leb-false _ _ l)) at h in let z : _≡_ {A = ℕ} 0 1 = cc in omega arith)
+
+  -- and where the hint run's end lies within tolerance, the call answers that end, shifted, for the evaluations of that run
+  pub placed-hint : (u v : Float) → terms .hint ≡ At u v → (e : End) (n : ℕ) → runFrom u v ≡ answered e n → le (e .distance) (terms .tolerance) ≡ true
+      → (budget : ℕ) → n ≤ budget → placed s mark terms budget ≡ Pair (turned terms e) n
+  unfolding inversionBy
+  placed-hint u v h e n r t budget l =
+      let k = hint-taken (domainOf s) mark (evaluateBy s (scaleOf s)) (valuesOf (axisU s)) (valuesOf (axisV s)) u v (terms .tolerance) e n r t in
+      let w : stepsOf s mark terms ≡ answered e n = rw h k in
+      rw w at (answer-enough terms s ok mark sound budget (rw w l))
