@@ -299,7 +299,7 @@ module _ (d : Domain) (mark : Vector3) (eval : Float → Float → Evaluated) wh
                 jet = j;
                 found = g .1;
                 far = le-trans (far e) (far a) (fromMark mark j) (all-at _ (end-least c) (led-member (c .lead) (f .1)))
-                (le-trans (far a) (s .distance) (fromMark mark j) (f .2) (all-at _ least point));
+                    (le-trans (far a) (s .distance) (fromMark mark j) (f .2) (all-at _ least point));
               }
 
           -- "In the second case every grid point is at least as far as the pair, unless the run from the nearest, the first in the grid among equals, was nudged."

@@ -3,4 +3,5 @@ pub mod Plane
 pub mod Preimage
 pub mod PlacingLaws
 pub mod PairLaws
+pub mod NumberLaws
 pub mod Compute

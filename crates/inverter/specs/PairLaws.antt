@@ -15,13 +15,13 @@ use Rattle.price.specs.Price.{Priced, refused, answered, price}
 use Rattle.newton.specs.declared.End.{End}
 use Rattle.newton.specs.Run.{run}
 use Rattle.inversion.specs.declared.Hint.{Hint}
-use Rattle.inversion.specs.declared.Hint.the-variants.{Nothing, At}
+use Rattle.inversion.specs.declared.Hint.the-variants.{At}
 use Rattle.inversion.specs.Inversion.{led, inversionBy}
 use Rattle.inversion.specs.Nearest.{First}
 use Rattle.inversion.specs.InversionLaws.{far, taken, among, hint-taken}
 use Rattle.inversion.specs.SurfaceLaws.{InDomain, Paired, Chosen, NoNearer, in-domain, nearest-end, grid-no-nearer, paired}
 use Rattle.chart.specs.declared.Terms.{Terms}
-use Rattle.chart.specs.declared.Placing.the-variants.{Pair, Refusal}
+use Rattle.chart.specs.declared.Placing.the-variants.{Pair}
 use Rattle.chart.specs.Chart.{soundSearch, turned}
 use Rattle.inverter.specs.Inverter.{placed}
 use Rattle.inverter.specs.PlacingLaws.{stepsOf, resultOf, answer-enough, answer-short}
