@@ -14,11 +14,12 @@ use Rattle.grid.specs.Axis.{valuesOf}
 use Rattle.price.specs.Price.{Priced, refused, answered, price}
 use Rattle.newton.specs.declared.End.{End}
 use Rattle.newton.specs.Run.{run}
+use Rattle.newton.specs.RunLaws.{Reached}
 use Rattle.inversion.specs.declared.Hint.{Hint}
 use Rattle.inversion.specs.declared.Hint.the-variants.{At}
 use Rattle.inversion.specs.Inversion.{led, inversionBy}
 use Rattle.inversion.specs.Nearest.{First}
-use Rattle.inversion.specs.InversionLaws.{far, taken, among, hint-taken}
+use Rattle.inversion.specs.InversionLaws.{far, taken, among, hint-taken, pair-held}
 use Rattle.inversion.specs.SurfaceLaws.{InDomain, Paired, Chosen, NoNearer, in-domain, nearest-end, grid-no-nearer, paired}
 use Rattle.chart.specs.declared.Terms.{Terms}
 use Rattle.chart.specs.declared.Placing.the-variants.{Pair}
@@ -53,6 +54,8 @@ module _ (s : Surface) (ok : refusalOfSurface s ≡ 0) (mark : Vector3) (terms :
     pub before : End
     pub steps : stepsOf s mark terms ≡ answered before n
     pub shift : e ≡ turned terms before
+    -- it was evaluated, and its distance is the one compared
+    pub reached : Reached (domainOf s) mark (evaluateBy s (scaleOf s)) before
     pub source : Source before n
     -- "Before that shift, axes without the periodic flag stay in their knot domain."
     pub inside-u : InDomain (s .shape .u .periodic) (axisU s) (before .u)
@@ -65,6 +68,7 @@ module _ (s : Surface) (ok : refusalOfSurface s ≡ 0) (mark : Vector3) (terms :
       otherwise (record { chosen = k; nearest = nearest-end s (scaleOf s) ok mark finite k; grid = grid-no-nearer s (scaleOf s) ok mark finite k })
 
   by-steps : (p : Priced End) → stepsOf s mark terms ≡ p → (e : End) (n : ℕ) → resultOf terms p ≡ Pair e n → Shifted e n
+  unfolding inversionBy
   by-steps (refused k) w e n h = absurd (let z : _≡_ {A = ℕ} 0 1 = cc in omega arith)
   by-steps (answered a k) w e n h =
       let same : k ≡ n = cc in
@@ -73,6 +77,7 @@ module _ (s : Surface) (ok : refusalOfSurface s ≡ 0) (mark : Vector3) (terms :
         before = a;
         steps = rw (← same) w;
         shift = cc;
+        reached = rw w at (pair-held (domainOf s) mark (evaluateBy s (scaleOf s)) (valuesOf (axisU s)) (valuesOf (axisV s)) (terms .hint) (terms .tolerance));
         source = rw (← same) (source-of (terms .hint) refl (rw w at (paired s (scaleOf s) ok mark (terms .hint) (terms .tolerance))));
         inside-u = d .0;
         inside-v = d .1;
