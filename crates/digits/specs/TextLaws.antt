@@ -1,43 +1,19 @@
 -- How many digits a number has, and text put after text. Assumes nothing.
 use mathlib.Core.Path.{_≡_, refl, sym, ap, _∙_}
-use mathlib.Core.Bool.{Bool, true, false, cond}
 use mathlib.Core.List.{List, [], _∷_, _++_, append-assoc}
-use Prim.Native.Nat.{ℕ, zero, suc, _+_, _-_, _/_, _%_, _^_, _≤_, _<_}
-use native.Mathlib.Nat.{add-zero, add-assoc, pow-suc}
+use Prim.Native.Nat.{ℕ, zero, suc, _+_, _/_, _%_, _≤_, _<_}
+use native.Mathlib.Nat.{add-zero, add-assoc}
 use native.Mathlib.Numerals.{add-one}
 use native.Mathlib.Omega.{arith}
-use lib.Dec.{ltb}
 use lib.ListN.{length, take, drop, set, length-append, length-drop, take-append-drop}
 use lib.Seq.{take-set-le, length-take-le, take-at, drop-at, drop-drop, set-split}
-use borrow.Author.Tests.{ltb-false}
-use Rattle.digits.specs.Text.{Put, digit, digits, placesIn, written}
+use Rattle.digits.specs.Text.{Put, digit, digits, written}
 
 pub digits-length : (base k n : ℕ) → length (digits base k n) ≡ k
 unfolding digits
 digits-length base zero n = refl
 digits-length base (suc k) n =
     length-append (digits base k (n / base)) (digit (n % base) ∷ []) ∙ omega (arith, digits-length base k (n / base))
-
--- ---- no zero in front: no fewer digits would do
-
-tenfold : (p n : ℕ) → 1 ≤ p → 10 ≤ n → (1 < p → 10 ^ (p - 1) ≤ n / 10) → 10 ^ (suc p - 1) ≤ n
-tenfold zero n h t more = absurd (omega arith)
-tenfold (suc zero) n h t more = omega arith
-tenfold (suc (suc p)) n h t more =
-    let e : suc (suc (suc p)) - 1 ≡ suc (suc p) = omega arith in
-    let f : suc (suc p) - 1 ≡ suc p = omega arith in
-    let m : 10 ^ suc p ≤ n / 10 = rw f at (more (omega arith)) in
-    rw (e, pow-suc) (omega arith)
-
-pub places-fewest : (k n : ℕ) → 1 < placesIn k n → 10 ^ (placesIn k n - 1) ≤ n
-unfolding placesIn
-places-fewest zero n h = absurd (omega arith)
-places-fewest (suc k) n h = by (ltb n 10) refl h (places-fewest k (n / 10))
-  where
-    by : (b : Bool) → ltb n 10 ≡ b → 1 < cond b 1 (suc (placesIn k (n / 10))) → (1 < placesIn k (n / 10) → 10 ^ (placesIn k (n / 10) - 1) ≤ n / 10)
-        → 10 ^ (cond b 1 (suc (placesIn k (n / 10))) - 1) ≤ n
-    by true e h more = absurd (omega arith)
-    by false e h more = tenfold (placesIn k (n / 10)) n (omega arith) (ltb-false n 10 e) more
 
 -- ---- text after text
 
