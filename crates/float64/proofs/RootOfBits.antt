@@ -3,14 +3,14 @@ use mathlib.Core.Path.{_≡_, refl, sym, ap, subst, _∙_}
 use mathlib.Core.Logic.{inl}
 use mathlib.Core.Bool.{true, false, not, true≢false, false≢true}
 use Prim.Native.Nat.{ℕ, zero, suc, _+_, _*_, _/_, _%_, _^_, _≤_, _<_}
-use native.Mathlib.Nat.{lt-of-le-of-lt, mul-le-mul-left, zero-add, zero-mul, suc-mul, zero-lt-suc}
+use native.Mathlib.Nat.{lt-of-le-of-lt, mul-le-mul-left, zero-add, suc-mul, zero-lt-suc}
 use native.Mathlib.Omega.{arith}
 use lib.Dec.{T, lt→ltb}
 use lib.Ieee.{Float, nan, inf, fin, binary64, up, down, lt, eq, isNan, fits, toBits, ofBits}
 use lib.Ieee.Exact.{HasValue}
 use lib.Ieee.Fits.{up-pos}
 use lib.Ieee.Positive.{positive}
-use borrow.Author.Tests.{ltb-true, ltb-false}
+use borrow.Author.Tests.{ltb-false}
 use Rattle.float64.specs.WholeRoot.{nearestRoot}
 use Rattle.float64.specs.Functions.{halfSize, radicand, rootOfUnits, root}
 use Rattle.float64.specs.Patterns.{Normalized}
@@ -20,15 +20,6 @@ use Rattle.float64.proofs.Patterns.{Written, above-nothing, carried, to
 use Rattle.float64.proofs.Normal.{half-is, radicand-is}
 
 -- ---- the tests
-
-pub below-zero : (x : Float) → lt x +0 ≡ true → nan ≡ root x
-unfolding lt root
-below-zero nan h = absurd (false≢true h)
-below-zero (inf true) h = refl
-below-zero (inf false) h = absurd (false≢true h)
-below-zero (fin true zero e) h = absurd (omega (arith, ltb-true 0 (zero * up e * 1 + 0 * 1 * down e) h, zero-mul (up e)))
-below-zero (fin true (suc m) e) h = refl
-below-zero (fin false m e) h = absurd (omega (arith, ltb-true (m * up e * 1) (0 * 1 * down e) h))
 
 pub at-zero : (x : Float) → eq x +0 ≡ true → x ≡ root x
 unfolding eq root

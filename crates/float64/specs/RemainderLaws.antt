@@ -4,7 +4,7 @@ use mathlib.Core.Path.{_≡_, refl, sym, ap, ap₂, _∙_, subst}
 use mathlib.Core.Bool.{Bool, true, false, not, cond, true≢false, false≢true}
 use mathlib.Core.Logic.{_⊎_, inl, inr}
 use Prim.Native.Nat.{ℕ, _+_, _-_, _*_, _/_, _%_, _^_, _≤_, _<_}
-use native.Mathlib.Nat.{le-trans, le-of-lt, lt-of-le-of-lt, sub-add-cancel, zero-mul, mul-comm, mul-assoc, mul-right-comm, add-mul, mul-sub, mul-pos, mul-le-mul-right, mul-lt-mul-of-pos-right, lt-of-mul-lt-mul-right, eq-of-mul-eq-mul-right, mod-lt, mod-le, sub-le, le-of-eq, eq-zero-or-pos, div-add-mod'}
+use native.Mathlib.Nat.{le-refl, le-trans, le-of-lt, lt-of-le-of-lt, sub-add-cancel, zero-mul, mul-comm, mul-assoc, mul-right-comm, add-mul, mul-sub, mul-pos, mul-le-mul-right, mul-lt-mul-of-pos-right, lt-of-mul-lt-mul-right, eq-of-mul-eq-mul-right, mod-lt, mod-le, sub-le, le-of-eq, eq-zero-or-pos, div-add-mod'}
 use native.Mathlib.Omega.{arith}
 use lib.IntN.{ℤ}
 use lib.Dec.{T, leb, leb→le, nleb→lt}
@@ -13,12 +13,15 @@ use lib.Pow.{pow-add, pow-pos}
 use lib.Ieee.{Float, nan, inf, fin, Format, binary64, up, down, round, sum, add, rem, lt, le, ofBits, fits}
 use lib.Ieee.Fits.{up-pos, down-pos}
 use lib.Ieee.Exact.{HasValue, round-exact}
-use lib.Ieee.Order.{kept, round-mono}
+use lib.Ieee.Bits.{is-true}
+use lib.Ieee.Order.{round-mono, le-of-values}
 use lib.Ieee.Scale.{round-same}
 use lib.Ieee.Positive.{first-pos}
 use borrow.Author.Tests.{lt-ltb, le-ltb, ne-eqb}
-use Rattle.float64.specs.Operators.{_⊕_, 0·}
+use Rattle.float64.specs.Operators.{_⊕_, 0·, 1·}
 use Rattle.float64.specs.Functions.{isFinite, abs, remEuclid}
+use Rattle.float64.specs.Compute.{compute}
+use Rattle.float64.specs.Order as Order
 use Rattle.float64.specs.Nonneg.{nonneg-not-below, round-nonneg}
 use Rattle.float64.specs.Units.{Double, double, units-counted}
 
@@ -98,6 +101,15 @@ rem-exact s m e t n d F G N =
 sub-mul : (m n k : ℕ) → (m - n) * k ≡ m * k - n * k
 sub-mul m n k = mul-comm (m - n) k ∙ mul-sub k m n ∙ ap₂ (λ (x y : ℕ). x - y) (mul-comm k m) (mul-comm k n)
 
+-- x = a / c in size, its digits X over the denominator D, times another denominator E
+over : (X D E a c : ℕ) → X * c ≡ a * D → X * E * c ≡ a * (D * E)
+over X D E a c h = mul-right-comm X E c ∙ ap (λ (w : ℕ). w * E) h ∙ mul-assoc a D E
+
+-- a / c below b / c, by such digits
+over-lt : (X D Y E a b c : ℕ) → 0 < D → 0 < E → X * c ≡ a * D → Y * c ≡ b * E → a < b → X * E < Y * D
+over-lt X D Y E a b c P Q h k less =
+    lt-of-mul-lt-mul-right c (rw (over X D E a c h, over Y E D b c k, mul-comm E D) (mul-lt-mul-of-pos-right less (mul-pos P Q)))
+
 -- -a / c + b / c, rounded once, for a below b
 sum-once : (f : Format) (x : Float) (n : ℕ) (d : ℤ) (a b c : ℕ) → 0 < c → HasValue x true a c → HasValue (fin false n d) false b c → a < b → add f x (fin false n d) ≡ round f false (b - a) c
 unfolding add sum
@@ -105,12 +117,19 @@ sum-once f (fin true m e) n d a b c C (_, h) (_, k) less =
     let A = m * up e * down d in
     let B = n * up d * down e in
     let z = down e * down d in
-    let Z : 0 < z = mul-pos (down-pos e) (down-pos d) in
-    let p : A * c ≡ a * z = mul-right-comm (m * up e) (down d) c ∙ ap (λ (w : ℕ). w * down d) h ∙ mul-assoc a (down e) (down d) in
-    let q : B * c ≡ b * z = mul-right-comm (n * up d) (down e) c ∙ ap (λ (w : ℕ). w * down e) k ∙ mul-right-comm b (down d) (down e) ∙ mul-assoc b (down e) (down d) in
-    let o : A < B = lt-of-mul-lt-mul-right c (rw (p, q) (mul-lt-mul-of-pos-right less Z)) in
-    rw (lt-ltb A B o) (round-same f false (B - A) z (b - a) c Z C (simp (sub-mul, p, q)))
+    let p : A * c ≡ a * z = over (m * up e) (down e) (down d) a c h in
+    let q : B * c ≡ b * z = over (n * up d) (down d) (down e) b c k ∙ ap (λ (w : ℕ). b * w) (mul-comm (down d) (down e)) in
+    rw (lt-ltb A B (over-lt (m * up e) (down e) (n * up d) (down d) a b c (down-pos e) (down-pos d) h k less))
+    (round-same f false (B - A) z (b - a) c (mul-pos (down-pos e) (down-pos d)) C (simp (sub-mul, p, q)))
 sum-once f (fin false m e) n d a b c C (h, _) k less = absurd (false≢true h)
+
+-- ±a / c is below b / c
+under : (x : Float) (s : Bool) (n : ℕ) (d : ℤ) (a b c : ℕ) → HasValue x s a c → HasValue (fin false n d) false b c → a < b → lt x (fin false n d) ≡ true
+unfolding lt
+under (fin true m e) s n d a b c h k less =
+    lt-ltb 0 (m * up e * down d + n * up d * down e) (omega (arith, over-lt (m * up e) (down e) (n * up d) (down d) a b c (down-pos e) (down-pos d) (h .1) (k .1) less))
+under (fin false m e) s n d a b c h k less =
+    lt-ltb (m * up e * down d) (n * up d * down e) (over-lt (m * up e) (down e) (n * up d) (down d) a b c (down-pos e) (down-pos d) (h .1) (k .1) less)
 
 zero-size : (x a c d : ℕ) → 0 < c → x * c ≡ a * d → a ≡ 0 → x ≡ 0
 zero-size x a c d C h z = eq-of-mul-eq-mul-right c C x 0 (h ∙ simp (z, zero-mul))
@@ -137,13 +156,15 @@ pub finite-of-value : (x : Float) (s : Bool) (a c : ℕ) → HasValue x s a c �
 unfolding isFinite
 finite-of-value (fin t m e) s a c h = refl
 
--- what is not larger than a double rounds to a finite value
-finite-below : (t : Bool) (n : ℕ) (d : ℤ) (a c : ℕ) → T (fits binary64 (fin t n d)) → 0 < c → a * down d ≤ n * up d * c → isFinite (round binary64 false a c) ≡ true
-finite-below t n d a c G C h =
+-- what is not larger than a double doesn't round to more
+rounds-below : (t : Bool) (n : ℕ) (d : ℤ) (a c : ℕ) → T (fits binary64 (fin t n d)) → 0 < c → a * down d ≤ n * up d * c → T (le (round binary64 false a c) (fin false n d))
+rounds-below t n d a c G C h =
     let D = double t n d G in
-    let own : HasValue (round binary64 false (n * up d) (down d)) false (n * up d) (down d) =
+    let y = round binary64 false (n * up d) (down d) in
+    let own : HasValue y false (n * up d) (down d) =
     round-exact binary64 false (n * up d) (down d) n (D .shift) (down-pos d) (D .short) (D .under) (units-counted D) in
-    finite-of-le (round binary64 false a c) (round binary64 false (n * up d) (down d)) (n * up d) (down d) (nonneg-not-below (round-nonneg binary64 a c)) own (round-mono binary64 a c (n * up d) (down d) C (down-pos d) h)
+    let l = le-of-values y (fin false n d) (n * up d) (down d) (n * up d) (down d) (down-pos d) (down-pos d) own (refl, refl) (le-refl _) in
+    subst T (sym (Order.le-trans (round binary64 false a c) y (fin false n d) (is-true _ (round-mono binary64 a c (n * up d) (down d) C (down-pos d) h)) (is-true _ l))) tt
 
 -- where the remainder r of an x with the sign s is the answer, and where y's size is added to it
 keeps-or-moves : (s : Bool) (r : ℕ) → ((s ≡ false) ⊎ (r ≡ 0)) ⊎ ((s ≡ true) × (0 < r))
@@ -166,6 +187,9 @@ pub record RemEuclidExact (x y : Float) (s : Bool) (a b c : ℕ) : Type 0 where
   -- the answer is a number that is not below 0
   pub finite : isFinite (remEuclid x y) ≡ true
   pub not-negative : lt (remEuclid x y) 0· ≡ false
+  -- and it is at most y's size: below it where nothing is rounded, while b - a % b over c may round up to it
+  pub below-y : (s ≡ false) ⊎ (a % b ≡ 0) → lt (remEuclid x y) (abs y) ≡ true
+  pub most : le (remEuclid x y) (abs y) ≡ true
 
 pub rem-euclid-exact : (s : Bool) (m : ℕ) (e : ℤ) (t : Bool) (n : ℕ) (d : ℤ) → T (fits binary64 (fin s m e)) → T (fits binary64 (fin t n d)) → 0 < n
     → RemEuclidExact (fin s m e) (fin t n d) s (m * up e * down d) (n * up d * down e) (down e * down d)
@@ -185,6 +209,9 @@ rem-euclid-exact s m e t n d F G N =
     let v : HasValue r true (a % b) c = subst (λ (z : Bool). HasValue r z (a % b) c) o r-is in
     let sum : answer ≡ r ⊕ fin false n d = rw (below r (a % b) c v p) in
     (sum, sum ∙ sum-once binary64 r n d (a % b) b c C v y-is less) in
+    let below-y : (s ≡ false) ⊎ (a % b ≡ 0) → lt answer (fin false n d) ≡ true = λ o. rw (kept o) (under r s n d (a % b) b c r-is y-is less) in
+    let rounded : T (le (round binary64 false (b - a % b) c) (fin false n d)) =
+    rounds-below t n d (b - a % b) c G C (le-trans (mul-le-mul-right (down d) (sub-le b (a % b))) (le-of-eq (mul-assoc (n * up d) (down e) (down d)))) in
     record {
       dividend = (refl, sym (mul-assoc (m * up e) (down e) (down d)) ∙ mul-right-comm (m * up e) (down e) (down d));
       divisor = y-is;
@@ -193,8 +220,10 @@ rem-euclid-exact s m e t n d F G N =
       remainder = r-is;
       kept = kept;
       moved = moved;
-      finite = elim (keeps-or-moves s (a % b)) [ inl o ↦ rw (kept o) (finite-of-value r s (a % b) c r-is) | inr h ↦ rw (moved (h .0) (h .1) .1) (finite-below t n d (b - a % b) c G C (le-trans (mul-le-mul-right (down d) (sub-le b (a % b))) (le-of-eq (mul-assoc (n * up d) (down e) (down d))))) ];
+      finite = elim (keeps-or-moves s (a % b)) [ inl o ↦ rw (kept o) (finite-of-value r s (a % b) c r-is) | inr h ↦ rw (moved (h .0) (h .1) .1) (finite-of-le _ (fin false n d) b c (nonneg-not-below (round-nonneg binary64 (b - a % b) c)) y-is rounded) ];
       not-negative = elim (keeps-or-moves s (a % b)) [ inl o ↦ rw (kept o) (not-below r s (a % b) c C r-is o) | inr h ↦ rw (moved (h .0) (h .1) .1) (nonneg-not-below (round-nonneg binary64 (b - a % b) c)) ];
+      below-y = below-y;
+      most = elim (keeps-or-moves s (a % b)) [ inl o ↦ Order.lt→le answer (fin false n d) (below-y o) | inr h ↦ rw (moved (h .0) (h .1) .1) (is-true _ rounded) ];
     }
 
 by-nan : (x : Float) → remEuclid x nan ≡ nan
@@ -220,3 +249,8 @@ pub record RemEuclidSpecial : Type 0 where
 pub rem-euclid-special : RemEuclidSpecial
 unfolding remEuclid abs rem add lt
 rem-euclid-special = record { of-nan = λ y. refl; of-infinity = λ s y. refl; by-nan = by-nan; by-zero = by-zero; by-infinity = λ s m e t. refl }
+
+-- the answer can be y's size: -2 ^ -1074 by 1 is 1
+pub rem-euclid-reaches : remEuclid (ofBits binary64 0x8000_0000_0000_0001) 1· ≡ 1·
+unfolding compute
+rem-euclid-reaches = refl

@@ -13,14 +13,14 @@ use lib.Ieee.{Float, nan, inf, fin, binary64, up, down, size, round, fits, lt, l
 use lib.Ieee.Digits.{size-lt, size-le, size-reaches}
 use lib.Ieee.Exact.{HasValue, round-exact}
 use lib.Ieee.Fits.{round-fits, up-pos, down-pos}
-use borrow.Author.Tests.{ltb-false, lt-ltb}
+use borrow.Author.Tests.{ltb-true, ltb-false, lt-ltb}
 use lib.Ieee.Bits.{is-true}
 use lib.Ieee.Order.{le-of-values}
 use lib.Ieee.Positive.{positive, positive-of-value, values-of-le}
 use Rattle.float64.specs.Operators.{0·}
 use Rattle.float64.specs.Order as Order
 use Rattle.float64.specs.Order.{eq-zeros}
-use Rattle.float64.specs.Nonneg.{Nonneg, infinite, finite, nonneg-le, root-nonneg}
+use Rattle.float64.specs.Nonneg.{Nonneg, infinite, finite, nonneg→number, nonneg-le, root-nonneg}
 use Rattle.float64.specs.Functions.{isFinite, unitsOf, halfSize, radicand, rootOfUnits, root}
 use Rattle.float64.specs.Units.{units, double, units-shifted, units-under, own-units, units-of-value}
 use Rattle.float64.specs.WholeRoot.{unsquare-lt, IsNearest, nearestRoot, nearest-root}
@@ -290,18 +290,16 @@ root-nearest (fin true m e) f p = absurd p
 root-nearest (fin false zero e) f p = absurd p
 root-nearest (fin false (suc m) e) f p = nearest-of-units (unitsOf (suc m) e) (positive-units m e f) (fin false (suc m) e) refl
 
--- a double between the two roots and their midpoint would be nearer to one of them
-units-monotone : {x y r s : Float} → units x ≤ units y → RootNearest x r → RootNearest y s → units r ≤ units s
-units-monotone {x} {y} {r} {s} l a b =
-    le-of-suc-le-suc
-    (lt-of-not-le
-    (λ (g : units s < units r).
-    let h : 4 * (units y * 2 ^ 1074) < (units r + units s) * (units r + units s) = b .above r (a .held) (finite-of r (a .finite)) g in
-    let k : (units s + units r) * (units s + units r) < 4 * (units x * 2 ^ 1074) = a .below s (b .held) (finite-of s (b .finite)) g in
-    lt-irrefl (4 * (units y * 2 ^ 1074))
-    (lt-of-lt-of-le (lt-trans h (subst (λ (z : ℕ). z * z < 4 * (units x * 2 ^ 1074)) (add-comm (units s) (units r)) k)) (mul-le-mul-left 4 (mul-le-mul-right (2 ^ 1074) l)))))
+-- ---- beside the finite numbers above 0
 
--- ---- the order
+below-zero : (x : Float) → lt x 0· ≡ true → root x ≡ nan
+unfolding lt root ofBits
+below-zero nan h = absurd (false≢true h)
+below-zero (inf true) h = refl
+below-zero (inf false) h = absurd (false≢true h)
+below-zero (fin true zero e) h = absurd (omega (arith, ltb-true 0 (zero * up e * 1 + 0 * 1 * down e) h, zero-mul (up e)))
+below-zero (fin true (suc m) e) h = refl
+below-zero (fin false m e) h = absurd (omega (arith, ltb-true (m * up e * 1) (0 * 1 * down e) h))
 
 -- the numbers that have a root
 data Rooted : Float → Type 0 where
@@ -317,6 +315,40 @@ rooted (inf false) p q = all
 rooted (fin s zero e) p q = none s e
 rooted (fin false (suc m) e) p q = some m e
 rooted (fin true (suc m) e) p q = absurd (omega (arith, ltb-false 0 (suc m * up e * 1 + 0 * 1 * down e) q, suc-mul m (up e), up-pos e))
+
+number : {x : Float} → Rooted x → isNan (root x) ≡ false
+unfolding root isNan
+number (none s e) = refl
+number (some m e) = nonneg→number (root-nonneg (finite (suc m) e))
+number all = refl
+
+-- what IEEE 754 says of every other float
+pub record RootSpecial : Type 0 where
+  -- the root of -0 is -0, and that of +0 is +0
+  pub of-zero : (s : Bool) (e : ℤ) → root (fin s 0 e) ≡ fin s 0 e
+  pub of-infinity : root (inf false) ≡ inf false
+  pub of-nan : root nan ≡ nan
+  -- no number below 0 has a root, minus infinity among them
+  pub below-zero : (x : Float) → lt x 0· ≡ true → root x ≡ nan
+  -- and every number that is not below 0 has one
+  pub else-number : (x : Float) → isNan x ≡ false → lt x 0· ≡ false → isNan (root x) ≡ false
+
+pub root-special : RootSpecial
+unfolding root
+root-special = record { of-zero = λ s e. refl; of-infinity = refl; of-nan = refl; below-zero = below-zero; else-number = λ x p q. number (rooted x p q) }
+
+-- ---- the order
+
+-- a double between the two roots and their midpoint would be nearer to one of them
+units-monotone : {x y r s : Float} → units x ≤ units y → RootNearest x r → RootNearest y s → units r ≤ units s
+units-monotone {x} {y} {r} {s} l a b =
+    le-of-suc-le-suc
+    (lt-of-not-le
+    (λ (g : units s < units r).
+    let h : 4 * (units y * 2 ^ 1074) < (units r + units s) * (units r + units s) = b .above r (a .held) (finite-of r (a .finite)) g in
+    let k : (units s + units r) * (units s + units r) < 4 * (units x * 2 ^ 1074) = a .below s (b .held) (finite-of s (b .finite)) g in
+    lt-irrefl (4 * (units y * 2 ^ 1074))
+    (lt-of-lt-of-le (lt-trans h (subst (λ (z : ℕ). z * z < 4 * (units x * 2 ^ 1074)) (add-comm (units s) (units r)) k)) (mul-le-mul-left 4 (mul-le-mul-right (2 ^ 1074) l)))))
 
 zero-lt : (s : Bool) (e : ℤ) (m : ℕ) (d : ℤ) → lt (fin s zero e) (fin false (suc m) d) ≡ true
 unfolding lt

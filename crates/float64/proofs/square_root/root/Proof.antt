@@ -1,12 +1,14 @@
+use mathlib.Core.Path.{sym}
 use lib.Ieee.{ofBits, div}
 use borrow.Author.Needs.{needs}
-use Rattle.float64.proofs.RootOfBits.{below-zero, at-zero, above-zero, other}
+use Rattle.float64.specs.RootLaws.{root-special}
+use Rattle.float64.proofs.RootOfBits.{at-zero, above-zero, other}
 use Rattle.float64.proofs.square_root.root.Statement.{statement}
 use Rattle.float64.proofs.square_root.root.Tie as tie
 
 returns : tie.Need-returns
 unfolding ofBits div
-returns c = below-zero (c .before .args .x) (c .if1 .taken)
+returns c = sym (root-special .below-zero (c .before .args .x) (c .if1 .taken))
 
 returns-2 : tie.Need-returns-2
 unfolding ofBits
