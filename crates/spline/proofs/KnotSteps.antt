@@ -13,31 +13,27 @@ use borrow.Author.Tests.{eq-eqb, ne-eqb, lt-ltb, le-ltb, lt-leb, le-leb}
 use Rattle.float64.specs.Operators.{_⊖_}
 use Rattle.float64.specs.Functions.{isFinite}
 use Rattle.spline.specs.Knots.{Axis, axis, knot, low, high, refusalOfKnots}
-use Rattle.spline.specs.KnotLaws.{countsFit, knotsFit, knotFits, domainFits, accepted-parts, toFirst, first-none, first-some}
+use Rattle.spline.specs.KnotLaws.{countsFit, knotsFit, knotFits, domainFits, accepted-parts, knot-tests, first-none, first-some}
 
 -- ---- the knot at i, against the next and the one m places on
 module _ (m : ℕ) (ks : List Float) (i : ℕ) (b : i < length ks) where
-  tests : knotFits m (getD ks i nan) (drop (i + 1) ks) ≡ (isFinite (getD ks i nan) && toFirst le (getD ks i nan) (drop (i + 1) ks) && toFirst lt (getD ks i nan) (drop (i + m) ks))
-  unfolding knotFits
-  tests = rw (add-one i, ← drop-cons ks i nan b, drop-drop m i ks)
-
   pub not-finite : isFinite (getD ks i nan) ≡ false → false ≡ knotFits m (getD ks i nan) (drop (i + 1) ks)
-  not-finite f = sym (tests ∙ simp f)
+  not-finite f = sym (knot-tests m ks i b ∙ simp f)
 
   module _ (f : isFinite (getD ks i nan) ≡ true) where
     pub last : 0 < m → length ks ≤ i + 1 → true ≡ knotFits m (getD ks i nan) (drop (i + 1) ks)
-    last s h = sym (tests ∙ simp (f, first-none le (getD ks i nan) ks (i + 1) h, first-none lt (getD ks i nan) ks (i + m) (omega arith)))
+    last s h = sym (knot-tests m ks i b ∙ simp (f, first-none le (getD ks i nan) ks (i + 1) h, first-none lt (getD ks i nan) ks (i + m) (omega arith)))
 
     module _ (h : i + 1 < length ks) where
       pub descends : le (getD ks i nan) (getD ks (i + 1) nan) ≡ false → false ≡ knotFits m (getD ks i nan) (drop (i + 1) ks)
-      descends t = sym (tests ∙ simp (f, first-some le (getD ks i nan) ks (i + 1) h, t))
+      descends t = sym (knot-tests m ks i b ∙ simp (f, first-some le (getD ks i nan) ks (i + 1) h, t))
 
       module _ (t : le (getD ks i nan) (getD ks (i + 1) nan) ≡ true) where
         pub later : i + m < length ks → lt (getD ks i nan) (getD ks (i + m) nan) ≡ knotFits m (getD ks i nan) (drop (i + 1) ks)
-        later l = sym (tests ∙ simp (f, first-some le (getD ks i nan) ks (i + 1) h, t, first-some lt (getD ks i nan) ks (i + m) l))
+        later l = sym (knot-tests m ks i b ∙ simp (f, first-some le (getD ks i nan) ks (i + 1) h, t, first-some lt (getD ks i nan) ks (i + m) l))
 
         pub none-later : length ks ≤ i + m → true ≡ knotFits m (getD ks i nan) (drop (i + 1) ks)
-        none-later l = sym (tests ∙ simp (f, first-some le (getD ks i nan) ks (i + 1) h, t, first-none lt (getD ks i nan) ks (i + m) l))
+        none-later l = sym (knot-tests m ks i b ∙ simp (f, first-some le (getD ks i nan) ks (i + 1) h, t, first-none lt (getD ks i nan) ks (i + m) l))
 
 -- ---- the counts
 module _ (p n c : ℕ) where

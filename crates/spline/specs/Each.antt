@@ -26,6 +26,10 @@ module _ {one : Float → List Float → Bool} {all : List Float → Bool} (each
   each-at (x ∷ xs) zero h l = first-and-rest x xs h .0
   each-at (x ∷ xs) (suc i) h l = each-at xs i (first-and-rest x xs h .1) (omega arith)
 
+  pub all-of-each : (xs : List Float) → ((i : ℕ) → i < length xs → one (getD xs i nan) (drop (suc i) xs) ≡ true) → all xs ≡ true
+  all-of-each [] h = each .none
+  all-of-each (x ∷ xs) h = each .more x xs ∙ and-eq-true-iff _ _ .1 (h 0 (omega arith), all-of-each xs (λ i l. h (suc i) (omega arith)))
+
   -- A walk from the first to the last: at i, the whole passes where what is left does.
   pub walked : (xs : List Float) (i : ℕ) → all xs ≡ all (drop i xs) → length xs ≤ i → all xs ≡ true
   walked xs i e h = e ∙ ap all (drop-of-length-le xs h) ∙ each .none

@@ -14,7 +14,7 @@ use Rattle.float64.specs.Order.{never, finite→number, le→not-lt, le-trans, 
 use Rattle.spline.specs.declared.parameter.KnotSide.{KnotSide}
 use Rattle.spline.specs.declared.parameter.KnotSide.the-variants.{Left, Right}
 use Rattle.spline.specs.declared.parameter.Snapped.the-variants.{At, Outside}
-use Rattle.spline.specs.KnotLaws.{accepted}
+use Rattle.spline.specs.KnotLaws.{accepted, ascends}
 use Rattle.spline.specs.Knots.{Axis, knot, low, high, ascending, refusalOfKnots, near, snapped, count, fromLeft, spanAt}
 
 -- ---- snap
@@ -221,14 +221,26 @@ module _ (a : Axis) (u : Float) (ok : refusalOfKnots a ≡ 0) (l : le (low a) u 
       let left = fromLeft a side u in
       let ks = a .knots in
       let s = spanAt a side u in
-      let n = before→below left u ks (A .ascends) (a .degree) (omega arith) (low-before left (from-left-low side)) in
-      let m = after→above left u ks (A .ascends) (a .controls) (omega arith) (high-after left (from-left-high a side u)) in
+      let n = before→below left u ks (ascends A) (a .degree) (omega arith) (low-before left (from-left-low side)) in
+      let m = after→above left u ks (ascends A) (a .controls) (omega arith) (high-after left (from-left-high a side u)) in
       let e : s + 1 ≡ count (before left u) ks = omega (arith, span-rank a side u left refl) in
       record {
         from-degree = omega arith;
         below-controls = omega arith;
         holds =
             between left (knot a s) u (knot a (s + 1)) (finite→number (knot a (s + 1)) (A .finite (s + 1) (omega arith)))
-            (before-count left u ks (A .ascends) s (omega arith) ∙ lt-ltb s _ (omega arith))
-            (before-count left u ks (A .ascends) (s + 1) (omega arith) ∙ le-ltb (s + 1) _ (omega arith));
+            (before-count left u ks (ascends A) s (omega arith) ∙ lt-ltb s _ (omega arith))
+            (before-count left u ks (ascends A) (s + 1) (omega arith) ∙ le-ltb (s + 1) _ (omega arith));
       }
+
+  -- and no other two neighbours have u between them so: degree 0 of The NURBS Book's equation 2.5
+  pub span-unique : (side : KnotSide) (i : ℕ) → i + 1 < length (a .knots) → before (fromLeft a side u) u (knot a i) ≡ true → before (fromLeft a side u) u (knot a (i + 1)) ≡ false → i ≡ spanAt a side u
+  span-unique side i h p q =
+      let A = accepted a ok in
+      let left = fromLeft a side u in
+      let ks = a .knots in
+      let n = before→below left u ks (ascends A) (a .degree) (omega arith) (low-before left (from-left-low side)) in
+      let m = after→above left u ks (ascends A) (a .controls) (omega arith) (high-after left (from-left-high a side u)) in
+      let b = before→below left u ks (ascends A) i (omega arith) p in
+      let c = after→above left u ks (ascends A) (i + 1) h q in
+      omega (arith, span-rank a side u left refl)

@@ -3,7 +3,7 @@ use mathlib.Core.Path.{sym, ap, _∙_}
 use Prim.Native.Nat.{ℕ, _-_}
 use native.Mathlib.Omega.{arith}
 use borrow.Author.Needs.{needs}
-use Rattle.spline.specs.KnotLaws.{accepted}
+use Rattle.spline.specs.KnotLaws.{accepted, ascends}
 use Rattle.spline.specs.ParameterLaws.{span-rank}
 use Rattle.spline.proofs.parameter.span.Statement.{statement}
 use Rattle.spline.proofs.parameter.span.Tie as tie
@@ -21,7 +21,7 @@ add-partition-point c =
 partition-point-requires : tie.Need-partition-point-requires
 partition-point-requires c κs =
     let a = accepted _ (c .before .before .pre) in
-    (a .ascends, omega arith, omega arith)
+    (ascends a, omega arith, omega arith)
 
 sub-result : tie.Need-sub-result
 sub-result c = omega (arith, c .partition-point .ensures)
