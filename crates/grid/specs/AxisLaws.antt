@@ -9,7 +9,7 @@ use lib.ListN.{length, getD, length-append}
 use lib.Ieee.{Float, nan, lt, le, eq}
 use Rattle.float64.specs.Order.{le→number, le-refl, le-trans, lt→le, lt→not-le, le-lt-trans, lt-trans, lt-eq, le-antisym, eq→le, eq-sym, eq-trans}
 use Rattle.spline.specs.Knots.{Axis, low, high, ascending, refusalOfKnots}
-use Rattle.spline.specs.KnotLaws.{accepted}
+use Rattle.spline.specs.KnotLaws.{accepted, ascends}
 use Rattle.grid.specs.Axis.{filter, distinctFrom, distinct, every, breaksOf, stride, thinned, eighths, between, valuesOf}
 
 abbrev pub inDomain : Float → Float → Float → Bool
@@ -227,7 +227,7 @@ breaks-spread a ok =
     let n = le→number (low a) (high a) lh in
     let ll = le-refl (low a) (n .0) in
     let hh = le-refl (high a) (n .1) in
-    let s = ascending-sorted (a .knots) (A .ascends) in
+    let s = ascending-sorted (a .knots) (ascends A) in
     let fl : f (low a) ≡ true = and-eq-true-iff _ _ .1 (ll, lh) in
     let fh : f (high a) ≡ true = and-eq-true-iff _ _ .1 (lh, hh) in
     let z = lastOf (high a) (filter f (a .knots)) in

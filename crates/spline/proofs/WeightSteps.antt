@@ -15,6 +15,7 @@ use Rattle.float64.specs.Order.{max-larger, lt-trans, lt-irrefl, lt-not-le, le-
 use Rattle.float64.specs.Nonneg.{Nonneg, infinite, zero-nonneg, nonneg→number}
 use Rattle.spline.specs.declared.weights.Weighed.the-variants.{Scale, Refused}
 use Rattle.spline.specs.Weights.{sound, largest, vanishing, isEmpty, weighed}
+use Rattle.spline.specs.WeightLaws.{not-empty}
 use Rattle.spline.specs.ExtremeLaws.{allAbove, smallest, Told, above-nonneg, sound-by-most, vanishing-by-least}
 
 -- ---- one of two numbers, by a strict order of them, the first of equals: which pair is compared first makes no difference
@@ -128,11 +129,6 @@ unfolding isEmpty
 empty [] h = refl
 empty (w ∷ ws) h = absurd (omega arith)
 
-some : (ws : List Float) → (length ws ≡ 0 → ⊥) → isEmpty ws ≡ false
-unfolding isEmpty
-some [] h = absurd (h refl)
-some (w ∷ ws) h = refl
-
 pub none-refused : (ws : List Float) → length ws ≡ 0 → Refused ≡ weighed ws
 unfolding weighed
 none-refused ws h = simp (empty ws h)
@@ -166,4 +162,4 @@ module _ (ws : List Float) (h : length ws ≡ 0 → ⊥) (above finite : Bool) (
 
     pub scaled : eq (least ⊘ most) 0· ≡ false → Scale most ≡ weighed ws
     unfolding weighed
-    scaled v = simp (some ws h, is-sound, vanishing-is, v) (ap Scale (t .is-most all-above))
+    scaled v = simp (not-empty ws (omega arith), is-sound, vanishing-is, v) (ap Scale (t .is-most all-above))

@@ -1,4 +1,4 @@
--- The parts of the check of knots, and what holds of knots that are accepted. Assumes nothing.
+-- The parts of the check of knots, and what accepted knots are, both ways. Assumes nothing.
 use mathlib.Core.Path.{_≡_, refl, sym, _∙_}
 use mathlib.Core.Bool.{Bool, true, false, cond, _&&_, _||_, and-assoc, true≢false}
 use mathlib.Core.Logic.{_↔_, _⊎_, inl, inr, ⊎-elim}
@@ -239,7 +239,7 @@ refused-degree a = (there (answer a), back (answer a))
     back (knots-out l u r) d = absurd (in-range d l u)
     back (none-out A) d = absurd (in-range d (A .degree-least) (A .degree-most))
 
--- 6 where the degree passes and anything else of this doesn't hold, and never elsewhere
+-- 6 where the degree is 1 to 16 and the knots are not as accepted ones are, and never elsewhere
 pub refused-knots : (a : Axis) → refusalOfKnots a ≡ 6 ↔ (1 ≤ a .degree) × (a .degree ≤ 16) × (Accepted a → ⊥)
 refused-knots a = (there (answer a), back (answer a))
   where
