@@ -2,19 +2,20 @@
 use mathlib.Core.Path.{_≡_, refl, sym, ap, _∙_}
 use mathlib.Core.Bool.{Bool, true, false, cond}
 use mathlib.Core.List.{List, []}
-use Prim.Native.Nat.{ℕ, zero, suc, _+_, _-_, _≤_, _<_}
+use Prim.Native.Nat.{ℕ, suc, _+_, _-_, _≤_, _<_}
 use native.Mathlib.Omega.{arith}
 use native.Mathlib.Numerals.{add-one}
 use lib.Dec.{eqb, ltb}
 use lib.ListN.{length, getD, set, length-set}
 use lib.Seq.{getD-set-same, getD-set-other}
 use lib.Ieee.{Float, nan, eq}
-use borrow.Author.Tests.{lt-ltb, le-ltb, le-leb, lt-leb, ne-eqb, eqb-true, eqb-false, ltb-true, ltb-false}
+use borrow.Author.Tests.{lt-ltb, le-ltb, le-leb, eqb-true, eqb-false, ltb-true, ltb-false}
 use Rattle.float64.specs.Compute as Float64
 use Rattle.float64.specs.Operators.{_⊕_, _⊖_, 0·, ofNat}
 use Rattle.basis.specs.declared.Entry.{Entry}
 use Rattle.basis.specs.declared.Term.{Term}
 use Rattle.basis.specs.Basis.{Cell, cell, checked, right, blend, zeroCell, N}
+use Rattle.basis.specs.BasisLaws.{outside}
 use Rattle.basis.specs.Rows.{Rows, cellOf, finite, termAt, mixOf, entry, column, Shaped, Columns, Broken}
 
 -- by the outcome of a test
@@ -169,14 +170,10 @@ module _ (ks : List Float) (start p : ℕ) (u : Float) where
       simp (le-leb (start + j) (start + p) (omega arith), le-leb (start + p) (start + j + suc d) (omega arith), q)
 
   pub left-of : (d j : ℕ) → j + d < p → E d j ≡ zeroCell
-  unfolding N
-  left-of zero j h = simp (ne-eqb (start + j) (start + p) (λ e. omega arith))
-  left-of (suc d) j h = simp (le-leb (start + j) (start + p) (omega arith), lt-leb (start + p) (start + j + suc d) (omega arith))
+  left-of d j h = outside ks u (start + p) d (start + j) (λ l m. omega arith)
 
   pub right-of : (d j : ℕ) → p < j → E d j ≡ zeroCell
-  unfolding N
-  right-of zero j h = simp (ne-eqb (start + j) (start + p) (λ e. omega arith))
-  right-of (suc d) j h = simp (lt-leb (start + j) (start + p) (omega arith))
+  right-of d j h = outside ks u (start + p) d (start + j) (λ l m. omega arith)
 
   -- a column that is not raised is the same of both degrees
   pub left-same : (d k : ℕ) → k + suc d < p → E (suc d) k ≡ E d k

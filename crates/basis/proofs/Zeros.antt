@@ -3,58 +3,29 @@ use mathlib.Core.Path.{_≡_, refl, sym, ap, _∙_}
 use mathlib.Core.Bool.{Bool, true, false, cond, _&&_, and-eq-true-iff, true≢false, false≢true}
 use mathlib.Core.List.{List}
 use Prim.Native.Nat.{ℕ, zero, suc, _+_, _*_, _<_}
-use native.Mathlib.Nat.{zero-mul, mul-zero, one-mul, mul-one, zero-add, add-zero, sub-zero, mul-pos}
+use native.Mathlib.Nat.{zero-mul, one-mul, mul-one, zero-add, add-zero, sub-zero, mul-pos}
 use native.Mathlib.Omega.{arith}
-use lib.Dec.{T, ltb, lit<}
+use lib.Dec.{T, ltb}
 use lib.IntN.{ℤ, pos}
 use lib.ListN.{getD}
-use lib.Ieee.{Float, nan, inf, fin, binary64, up, down, round, sum, neg, add, sub, mul, div, eq, isNan, fits, ofBits, unlike}
+use lib.Ieee.{Float, nan, inf, fin, binary64, up, down, round, sum, neg, add, sub, eq, isNan, fits, ofBits}
 use lib.Ieee.Exact.{HasValue, round-exact}
 use lib.Ieee.Fits.{up-pos, down-pos, mul-fits}
 use lib.Ieee.Positive.{first-pos}
 use lib.Ieee.Scale.{round-same}
-use borrow.Author.Tests.{lt-ltb, le-ltb, ltb-true, ne-eqb}
+use borrow.Author.Tests.{lt-ltb, le-ltb, ltb-true}
 use Rattle.float64.specs.Compute as Float64
-use Rattle.float64.specs.Operators.{_⊕_, _⊖_, _⊗_, _⊘_, 0·}
+use Rattle.float64.specs.Operators.{_⊕_, _⊖_, 0·}
 use Rattle.float64.specs.Functions.{isFinite}
 use Rattle.float64.specs.Order.{finite→number}
 use Rattle.float64.specs.Units.{double, units-counted}
 use Rattle.basis.specs.declared.Entry.{Entry}
 use Rattle.basis.specs.declared.Term.{Term}
+use Rattle.basis.specs.Signs.{Nought, missing, nothing, zero-nought, nought-mul, nought-div, nought-neg}
 use Rattle.basis.specs.Rows.{absent, termAt, mixOf}
 use Rattle.basis.proofs.Rows.{by}
 
--- ---- a zero of either sign, or a NaN
-
-data Nought : Float → Type 0 where
-  missing : Nought nan
-  nothing : (s : Bool) → Nought (fin s 0 (pos 0))
-
-round-0 : (s : Bool) (c : ℕ) → 0 < c → round binary64 s 0 c ≡ fin s 0 (pos 0)
-unfolding Float64.compute
-round-0 s c h = round-same binary64 s 0 c 0 1 h (lit< tt) (sym (zero-mul c))
-
-nought-mul : (q : Float) {z : Float} → Nought z → Nought (q ⊗ z)
-unfolding mul
-nought-mul nan z = missing
-nought-mul (inf s) missing = missing
-nought-mul (inf s) (nothing t) = missing
-nought-mul (fin s m e) missing = missing
-nought-mul (fin s m e) (nothing t) = simp (mul-zero, mul-one, round-0 (unlike s t) (down e) (down-pos e)) (nothing (unlike s t))
-
-nought-div : (l : Float) → Nought (0· ⊘ l)
-unfolding div ofBits
-nought-div nan = missing
-nought-div (inf t) = nothing (unlike false t)
-nought-div (fin t zero d) = missing
-nought-div (fin t (suc n) d) = simp (ne-eqb (suc n) 0 (λ e. omega arith), zero-mul, mul-one, round-0 (unlike false t) (suc n * up d) (mul-pos (omega arith) (up-pos d))) (nothing (unlike false t))
-
-nought-neg : {z : Float} → Nought z → Nought (neg z)
-unfolding neg
-nought-neg missing = missing
-nought-neg (nothing s) = nothing _
-
--- ---- a sum with it
+-- ---- a sum with a zero of either sign, or a NaN
 
 add-number : (x y : Float) → isFinite (x ⊕ y) ≡ true → (isNan x ≡ false) × (isNan y ≡ false)
 unfolding add isFinite isNan
@@ -143,11 +114,11 @@ rounded-absent = record { rising = tt; first = tt }
 
 module _ (ks : List Float) (i d : ℕ) (n u : Float) where
   pub still-term : (y : Float) → Still (termAt ks i d n u 0· y)
-  unfolding termAt ofBits
+  unfolding termAt
   still-term y =
-      let z : Nought 0· = nothing false in
+      let z = zero-nought in
       let l = getD ks (i + d) nan ⊖ getD ks i nan in
-      either Still (eq l 0·) (record { rising = z; falling = z; first = z }) (record { rising = nought-mul _ z; falling = nought-mul _ z; first = nought-mul n (nought-div l) })
+      either Still (eq l 0·) (record { rising = z; falling = z; first = z }) (record { rising = nought-mul _ z; falling = nought-mul _ z; first = nought-mul n (nought-div zero-nought l) })
 
   pub rounded-term : (x y : Float) → Rounded (termAt ks i d n u x y)
   unfolding termAt

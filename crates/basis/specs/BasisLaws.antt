@@ -1,26 +1,35 @@
 -- Laws of a basis: which controls a sample touches, that its numbers are finite, and that a parameter counts as it snaps. Assumes nothing.
 use mathlib.Core.Path.{_≡_, refl, sym, ap, _∙_, subst}
-use mathlib.Core.Bool.{Bool, true, false, cond, _&&_}
+use mathlib.Core.Bool.{Bool, true, false, cond, _&&_, and-eq-true-iff}
 use mathlib.Core.List.{List}
 use Prim.Native.Nat.{ℕ, zero, suc, _+_, _-_, _≤_, _<_}
 use native.Mathlib.Omega.{arith}
 use lib.Dec.{eqb, leb}
 use lib.ListN.{length, getD}
 use lib.Ieee.{Float, nan, eq}
+use borrow.Author.Tests.{leb-true, ne-eqb}
 use Rattle.float64.specs.Compute as Float64
 use Rattle.float64.specs.Operators.{_⊖_, 0·}
 use Rattle.float64.specs.Functions.{isFinite}
+use Rattle.float64.specs.Order.{never}
 use Rattle.spline.specs.Knots.{Axis, low, high, refusalOfKnots, snapped, spanAt}
 use Rattle.spline.specs.KnotLaws.{accepted}
 use Rattle.spline.specs.declared.parameter.KnotSide.{KnotSide}
 use Rattle.spline.specs.declared.parameter.Snapped.{Snapped}
 use Rattle.spline.specs.declared.parameter.Snapped.the-variants.{At, Outside}
 use Rattle.basis.specs.declared.Basis.{Basis}
-use Rattle.basis.specs.Basis.{Cell, none, cell, checked, right, blend, N, row, Three, Sample, refused, sample, finiteThrees, joined, gathered, sampleAt, basisAt, threes, shown}
+use Rattle.basis.specs.Basis.{Cell, none, cell, checked, right, blend, zeroCell, N, row, Three, Sample, refused, sample, finiteThrees, joined, gathered, sampleAt, basisAt, threes, shown}
 
 pub bounds : (a : Axis) (side : KnotSide) (u : Float) (j : ℕ) → a .degree < a .controls → j ≡ spanAt a side u → (a .degree ≤ j) × (j < a .controls)
 unfolding spanAt
 bounds a side u j h e = (omega arith, omega arith)
+
+-- a function is 0 where the span is not in its support
+pub outside : (ks : List Float) (u : Float) (j d i : ℕ) → (i ≤ j → j ≤ i + d → ⊥) → N ks u j d i ≡ zeroCell
+unfolding N
+outside ks u j zero i f = rw (ne-eqb i j (λ e. f (omega arith) (omega arith)))
+outside ks u j (suc d) i f =
+    rw (never (leb i j && leb j (i + suc d)) (λ h. let z = and-eq-true-iff (leb i j) (leb j (i + suc d)) .0 h in f (leb-true i j (z .0)) (leb-true j (i + suc d) (z .1))))
 
 -- ---- finite numbers
 

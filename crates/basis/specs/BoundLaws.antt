@@ -1,27 +1,28 @@
 -- Accepted knots that pass the code's test of their sizes are bounded. Assumes nothing.
 use mathlib.Core.Path.{_≡_, refl, sym, _∙_}
 use mathlib.Core.Logic.{_⊎_, inl, inr, ⊎-elim}
-use mathlib.Core.Bool.{Bool, true, false, not, _&&_, _||_, cond, and-true, and-eq-true-iff, true≢false, false≢true}
+use mathlib.Core.Bool.{Bool, true, false, not, _&&_, _||_, and-true, true≢false, false≢true}
 use mathlib.Core.List.{List, [], _∷_}
 use Prim.Native.Nat.{ℕ, zero, suc, _+_, _-_, _*_, _≤_, _<_, zero-le}
 use native.Mathlib.Nat.{le-refl, lt-of-lt-of-le, le-of-suc-le-suc, eq-or-lt-of-le, sub-self, mul-pos}
 use native.Mathlib.Omega.{arith}
 use lib.Pow.{pow-pos}
-use lib.Dec.{ltb, eqb, lit<, lit≤}
+use lib.Dec.{lit<, lit≤}
 use lib.IntN.{pos, negsuc}
 use lib.ListN.{length, drop, getD}
-use lib.Ieee.{Float, nan, inf, fin, binary64, up, down, sum, sub, below, level, le, eq, ofBits}
+use lib.Ieee.{Float, nan, inf, fin, binary64, up, down, sum, sub, le, eq, ofBits}
 use lib.Ieee.Fits.{up-pos, down-pos}
-use borrow.Author.Tests.{ltb-true, le-ltb, eqb-true}
+use borrow.Author.Tests.{le-ltb}
 use Rattle.float64.specs.Operators.{_⊖_, 0·}
 use Rattle.float64.specs.Functions.{isFinite, abs}
 use Rattle.float64.specs.Order.{eq→le, eq-sym, eq-trans, eq-zeros}
-use Rattle.float64.specs.Nonneg.{Nonneg, infinite, finite, round-nonneg}
-use Rattle.float64.specs.Differences.{either, apart}
+use Rattle.float64.specs.Nonneg.{Nonneg, infinite, finite}
+use Rattle.float64.specs.Differences.{apart}
 use Rattle.float64.specs.Magnitude.{Within, within, Held, round-within, within-finite, within-of-le, at-least, Mag, Floor, mag-finite, mag-sub, mag-of-le, mag-between, floor-of-le, abs-positive, floor-positive}
 use Rattle.spline.specs.Each.{Each, both, each-at, tells-more, tells-all}
 use Rattle.spline.specs.Knots.{Axis, knot, refusalOfKnots}
 use Rattle.spline.specs.KnotLaws.{toFirst, first-none, first-some, accepted}
+use Rattle.basis.specs.Signs.{missing, nothing, NotBelow, nought, above, difference-not-below}
 use Rattle.basis.specs.Magnitude.{Bounded}
 
 -- ---- the test
@@ -73,10 +74,10 @@ most-mag = record { most = within false 1 (pos 900) (lit≤ tt) }
 none-held : Held 0
 none-held = record { digits = 0; place = 0; short = lit< tt; is = refl; under = lit< tt }
 
-nothing : {x : Float} → Within 0 x → eq x 0· ≡ true
+zero-size : {x : Float} → Within 0 x → eq x 0· ≡ true
 unfolding ofBits
-nothing (within s zero e h) = eq-zeros s false e (pos 0)
-nothing (within s (suc m) e h) = absurd (omega (arith, lt-of-lt-of-le (mul-pos (mul-pos {m = suc m} (omega arith) (up-pos e)) (pow-pos 1074)) h))
+zero-size (within s zero e h) = eq-zeros s false e (pos 0)
+zero-size (within s (suc m) e h) = absurd (omega (arith, lt-of-lt-of-le (mul-pos (mul-pos {m = suc m} (omega arith) (up-pos e)) (pow-pos 1074)) h))
 
 within-abs : {b : ℕ} {x : Float} → Within b x → Within b (abs x)
 unfolding abs
@@ -99,39 +100,17 @@ self (inf s) f = absurd (false≢true f)
 self (fin s m e) f = self-sum s (m * up e * down e) (down e * down e) (mul-pos (down-pos e) (down-pos e))
 
 equal-sub : (x y : Float) → isFinite x ≡ true → isFinite y ≡ true → eq x y ≡ true → eq (y ⊖ x) 0· ≡ true
-equal-sub x y f g e = nothing (within-of-le (y ⊖ x) (within-abs (self x f)) (apart x y x f g f (eq→le x y e) (eq→le y x (eq-sym y x ∙ e)) .0))
-
-cond-nonneg : (t : Bool) {x y : Float} → Nonneg x → Nonneg y → Nonneg (cond t x y)
-cond-nonneg true p q = p
-cond-nonneg false p q = q
-
--- ±a / c less ±b / c, where it is not below 0
-rise : (s : Bool) (a : ℕ) (t : Bool) (b c : ℕ) → 0 < c → (below t b s a || level t b s a) ≡ true → Nonneg (sum binary64 s a (not t) b c) ⊎ Within 0 (sum binary64 s a (not t) b c)
-unfolding sum
-rise false a false b c C h =
-    let l : b ≤ a = either (ltb b a) (eqb b a) _ (λ t. omega (arith, ltb-true b a t)) (λ t. omega (arith, eqb-true b a t)) h in
-    inl (rw (le-ltb a b l) (round-nonneg binary64 (a - b) c))
-rise false a true b c C h = inl (round-nonneg binary64 (a + b) c)
-rise true a false b c C h =
-    let z = and-eq-true-iff (eqb b a) (eqb b 0) .0 h in
-    let n : a + b ≡ 0 = omega (arith, eqb-true b a (z .0), eqb-true b 0 (z .1)) in
-    inr (rw n (round-within true 0 c C none-held zero-le))
-rise true a true b c C h =
-    let l : a ≤ b = either (ltb a b) (eqb b a) _ (λ t. omega (arith, ltb-true a b t)) (λ t. omega (arith, eqb-true b a t)) h in
-    inl (rw (le-ltb b a l) (cond-nonneg (ltb a b) (round-nonneg binary64 (b - a) c) (round-nonneg binary64 (a - b) c)))
+equal-sub x y f g e = zero-size (within-of-le (y ⊖ x) (within-abs (self x f)) (apart x y x f g f (eq→le x y e) (eq→le y x (eq-sym y x ∙ e)) .0))
 
 -- a difference that is not 0 is of sign plus
 rising : (x y : Float) → isFinite x ≡ true → isFinite y ≡ true → le x y ≡ true → eq (y ⊖ x) 0· ≡ false → abs (y ⊖ x) ≡ y ⊖ x
-unfolding isFinite sub le
-rising nan y f g l n = absurd (false≢true f)
-rising (inf t) y f g l n = absurd (false≢true f)
-rising (fin t m e) nan f g l n = absurd (false≢true g)
-rising (fin t m e) (inf s) f g l n = absurd (false≢true g)
-rising (fin t m e) (fin s k d) f g l n = by (rise s (k * up d * down e) t (m * up e * down d) (down d * down e) (mul-pos (down-pos d) (down-pos e)) l) n
+unfolding abs ofBits
+rising x y f g l n = by (difference-not-below x y f g l) n
   where
-    by : {w : Float} → Nonneg w ⊎ Within 0 w → eq w 0· ≡ false → abs w ≡ w
-    by (inl p) n = abs-nonneg p
-    by (inr z) n = absurd (true≢false (sym (nothing z) ∙ n))
+    by : {w : Float} → NotBelow w → eq w 0· ≡ false → abs w ≡ w
+    by (nought missing) n = refl
+    by (nought (nothing s)) n = absurd (true≢false (sym (eq-zeros s false (pos 0) (pos 0)) ∙ n))
+    by (above p) n = abs-nonneg p
 
 -- ---- the widths of knots that are not neighbours
 

@@ -2,7 +2,10 @@ pub mod Basis
 pub mod Rows
 pub mod Parts
 pub mod Compute
+pub mod Signs
 pub mod BasisLaws
 pub mod Magnitude
 pub mod BoundLaws
+pub mod BookLaws
+pub mod NonnegLaws
 pub mod Examples
