@@ -177,6 +177,7 @@ fn first_at(knots: &[f64], degree: usize, controls: usize, t: f64, side: KnotSid
 }
 
 // The rows filled for a parameter, and where their functions start.
+// The contract leaves open the columns after the degree + 1 functions and, where nothing is found, the start and every column: any numbers may stand there.
 pub fn tabulate(
     knots: &[f64],
     degree: usize,
@@ -202,6 +203,7 @@ pub fn tabulate(
 }
 
 // The source's `basis_on_side`, on knots that passed their checks.
+// The contract leaves open what each array holds after the degree + 1 functions and, where nothing is found, the start and the arrays: any numbers may stand there.
 pub fn basis_on_side(knots: &[f64], degree: usize, controls: usize, u: f64, side: KnotSide) -> Basis
     requires { ⌜ refusalOfKnots (axis degree controls (now knots)) ≡ 0 ⌝ }
     ensures { λ r. ⌜ shown degree r ≡ basisAt (axis degree controls (now (knots .entry))) side u ⌝ }

@@ -82,7 +82,7 @@ fn raise_both(
     firsts[p] = last.first;
 }
 
-// The values of the functions at a parameter, and where they start.
+// The values of the functions at a parameter, and where they start. The contract leaves open what that of `tabulate` does.
 pub fn tabulate_values(
     knots: &[f64],
     degree: usize,
