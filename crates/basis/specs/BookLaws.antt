@@ -1,6 +1,6 @@
 -- The recursion of The NURBS Book as it stands there, with no word of a support, is `N` wherever its numbers are finite. Assumes nothing.
 use mathlib.Core.Path.{_≡_, refl, sym, _∙_}
-use mathlib.Core.Logic.{_⊎_, inl, inr}
+use mathlib.Core.Logic.{_⊎_, inl, inr, ⊎-elim}
 use mathlib.Core.Bool.{Bool, true, false, cond, _&&_, true≢false}
 use mathlib.Core.List.{List}
 use Prim.Native.Nat.{ℕ, zero, suc, _+_, _≤_}
@@ -12,8 +12,13 @@ use lib.Ieee.{Float, nan, fin, sub, eq}
 use borrow.Author.Tests.{le-leb}
 use Rattle.float64.specs.Compute as Float64
 use Rattle.float64.specs.Operators.{_⊕_, _⊖_, _⊗_, _⊘_, 0·}
+use Rattle.spline.specs.Knots.{Axis, low, high, refusalOfKnots, snapped, spanAt}
+use Rattle.spline.specs.KnotLaws.{accepted}
+use Rattle.spline.specs.declared.parameter.KnotSide.{KnotSide}
+use Rattle.spline.specs.declared.parameter.Snapped.the-variants.{At}
 use Rattle.basis.specs.Basis.{Cell, none, cell, checked, right, blend, zeroCell, unitCell, N}
 use Rattle.basis.specs.BasisLaws.{outside}
+use Rattle.basis.specs.Magnitude.{Span, Bounded, blank-mag, cell-found, axis-span}
 use Rattle.basis.specs.Signs.{Nought, missing, nothing, zero-nought, nought-mul, nought-div, nought-neg}
 
 -- equations 2.5 and 2.9 at every index, for u in the knot span j
@@ -74,10 +79,19 @@ empty-blend ks u d i =
     let z = zero-clear in
     empty-cond (eq (getD ks (i + d) nan ⊖ getD ks i nan) 0·) _ _ (empty-right _ _ _ _ z z z) (empty-right _ _ _ _ (plus z (term _)) (plus z (slope _ _)) (plus z (slope _ _)))
 
--- ---- the law
+-- ---- the laws
 
 module _ (ks : List Float) (u : Float) (j : ℕ) where
-  -- the book's function is refused, or it is the definition's
+  abbrev step : ℕ → ℕ → Cell
+  step d i = blend ks u (suc d) i (N ks u j d i) (N ks u j d (suc i))
+
+  -- outside of the support both functions of a step are 0
+  far : (d i : ℕ) → (leb i j && leb j (i + suc d)) ≡ false → step d i ≡ blend ks u (suc d) i zeroCell zeroCell
+  far d i e =
+      let no : i ≤ j → j ≤ i + suc d → ⊥ = λ l m. true≢false (sym (simp (le-leb i j l, le-leb j (i + suc d) m)) ∙ e) in
+      rw (outside ks u j d i (λ l m. no l (omega arith)), outside ks u j d (suc i) (λ l m. no (omega arith) (omega arith)))
+
+  -- the book's function, which knows no support, is refused or is `N`
   pub book : (d i : ℕ) → (plain ks u j d i ≡ none) ⊎ (plain ks u j d i ≡ N ks u j d i)
   unfolding plain N blend
   book zero i = inr refl
@@ -87,13 +101,28 @@ module _ (ks : List Float) (u : Float) (j : ℕ) where
       broken none = refl
       broken (cell x y z) = refl
 
-      split : (b : Bool) → (leb i j && leb j (i + suc d)) ≡ b → (c : Cell) → c ≡ blend ks u (suc d) i (N ks u j d i) (N ks u j d (suc i)) → (c ≡ none) ⊎ (c ≡ cond b c zeroCell)
-      split true e c s = inr refl
-      split false e c s =
-          let far : i ≤ j → j ≤ i + suc d → ⊥ = λ l m. true≢false (sym (simp (le-leb i j l, le-leb j (i + suc d) m)) ∙ e) in
-          rw (s, outside ks u j d i (λ l m. far l (omega arith)), outside ks u j d (suc i) (λ l m. far (omega arith) (omega arith))) (empty-blend ks u (suc d) i)
+      split : (b : Bool) → (leb i j && leb j (i + suc d)) ≡ b → (step d i ≡ none) ⊎ (step d i ≡ cond b (step d i) zeroCell)
+      split true e = inr refl
+      split false e = rw (far d i e) (empty-blend ks u (suc d) i)
 
       by : (a b : Cell) → (a ≡ none) ⊎ (a ≡ N ks u j d i) → (b ≡ none) ⊎ (b ≡ N ks u j d (suc i)) → (blend ks u (suc d) i a b ≡ none) ⊎ (blend ks u (suc d) i a b ≡ N ks u j (suc d) i)
       by a b (inl e) q = inl (rw e refl)
       by a b (inr e) (inl f) = inl (rw f (broken a))
-      by a b (inr e) (inr f) = rw (e, f) (split (leb i j && leb j (i + suc d)) refl _ refl)
+      by a b (inr e) (inr f) = rw (e, f) (split (leb i j && leb j (i + suc d)) refl)
+
+module _ {g c r : ℕ} {ks : List Float} {u : Float} {j p : ℕ} (S : Span g c r ks u j p) where
+  book-span : (d i : ℕ) → d ≤ 16 → d ≤ p → i + d ≤ j + p → plain ks u j d i ≡ N ks u j d i
+  unfolding plain N
+  book-span zero i few reach low = refl
+  book-span (suc d) i few reach low =
+      rw (book-span d i (omega arith) (omega arith) (omega arith), book-span d (suc i) (omega arith) (omega arith) (omega arith))
+      (by (leb i j && leb j (i + suc d)) refl)
+    where
+      by : (b : Bool) → (leb i j && leb j (i + suc d)) ≡ b → step ks u j d i ≡ cond b (step ks u j d i) zeroCell
+      by true e = refl
+      by false e = far ks u j d i e ∙ ⊎-elim (λ n. absurd (cell-found (blank-mag S d i (omega arith) reach low) n)) (λ z. z) (empty-blend ks u (suc d) i)
+
+-- on knots that are bounded it is not refused at any index that a sample's functions reach, and so it is `N`
+pub book-bounded : (a : Axis) (side : KnotSide) (t u : Float) → refusalOfKnots a ≡ 0 → Bounded a → snapped (low a) (high a) t ≡ At u
+    → (d i : ℕ) → d ≤ a .degree → i + d ≤ spanAt a side u + a .degree → plain (a .knots) u (spanAt a side u) d i ≡ N (a .knots) u (spanAt a side u) d i
+book-bounded a side t u h B e d i few low = book-span (axis-span a side t u h B e) d i (omega (arith, accepted a h .degree-most)) few low
