@@ -2,6 +2,7 @@ pub mod Sums
 pub mod Surface
 pub mod Compute
 pub mod Flags
+pub mod Table
 pub mod SurfaceLaws
 pub mod Lent
 pub mod Intervals
@@ -9,4 +10,5 @@ pub mod Net
 pub mod SumLaws
 pub mod PatchLaws
 pub mod EvaluateLaws
+pub mod NumberLaws
 pub mod Examples

@@ -124,3 +124,13 @@ evaluatedBy s (Check.Scale m) x y = orNine (evaluateBy s m x y)
 
 unfoldable pub evaluated : Surface → Float → Float → Evaluation
 evaluated s x y = evaluatedBy s (checked s) x y
+
+-- ---- 01's number of an answer, 0 where there is none
+
+unfoldable pub numberOfChecked : Checked → ℕ
+numberOfChecked (Check.Scale m) = 0
+numberOfChecked (Check.Refusal n) = n
+
+unfoldable pub numberOf : Evaluation → ℕ
+numberOf (Found j) = 0
+numberOf (Refusal n) = n

@@ -1,12 +1,13 @@
 -- What holds of a surface that is accepted, and of a parameter brought into the domain. Assumes nothing.
 use mathlib.Core.Path.{_≡_, refl, sym, ap, _∙_}
-use mathlib.Core.Bool.{Bool, true, false, not, cond, _&&_, _||_, or-true, and-eq-true-iff}
-use Prim.Native.Nat.{ℕ, zero, suc, _*_, _≤_, _<_}
+use mathlib.Core.Bool.{Bool, true, false, not, cond, _&&_, _||_, or-true, and-eq-true-iff, true≢false}
+use mathlib.Core.List.{List, [], _∷_}
+use Prim.Native.Nat.{ℕ, zero, suc, _+_, _*_, _≤_, _<_}
 use native.Mathlib.Omega.{arith}
 use lib.Dec.{eqb}
 use lib.ListN.{length, getD}
 use lib.Ieee.{Float, nan, lt, le, isNan}
-use borrow.Author.Tests.{ltb-false, eqb-true, not-false}
+use borrow.Author.Tests.{ltb-false, eqb-true, not-false, le-ltb, eq-eqb}
 use Rattle.float64.specs.Operators.{_⊕_, _⊖_}
 use Rattle.float64.specs.Functions.{isFinite, clamp, remEuclid}
 use Rattle.float64.specs.Order.{neither, le-refl, le→number, le-not-lt, lt→le}
@@ -18,12 +19,29 @@ use Rattle.spline.specs.Knots.{allFinite, refusalOfKnots}
 use Rattle.spline.specs.Each.{Each, each-at}
 use Rattle.surface.specs.declared.Checked.the-variants as Check
 use Rattle.surface.specs.Surface.{Surface, axisU, axisV, total, orElse, when, tooLarge, miscounted, refusalOfSurface, scaleOf, judged, checked, wrapped}
+use Rattle.surface.specs.Table.{NotFinite}
 
 -- ---- the checks
 
 pub finite-each : Each (λ x xs. isFinite x) allFinite
 unfolding allFinite
 finite-each = record { none = refl; more = λ x xs. refl }
+
+pub some-not-finite : (xs : List Float) → allFinite xs ≡ false → NotFinite xs
+unfolding allFinite
+some-not-finite [] h = absurd (true≢false h)
+some-not-finite (x ∷ xs) h = by (isFinite x) refl h (some-not-finite xs)
+  where
+    by : (b : Bool) → isFinite x ≡ b → (b && allFinite xs) ≡ false → (allFinite xs ≡ false → NotFinite xs) → NotFinite (x ∷ xs)
+    by false e h r = (0, omega arith, e)
+    by true e h r = let n = r h in (suc (n .0), omega arith, n .2)
+
+all-finite : (xs : List Float) → ((i : ℕ) → i < length xs → isFinite (getD xs i nan) ≡ true) → allFinite xs ≡ true
+all-finite xs h = by (allFinite xs) refl
+  where
+    by : (b : Bool) → allFinite xs ≡ b → b ≡ true
+    by true e = refl
+    by false e = let n = some-not-finite xs e in absurd (true≢false (sym (h (n .0) (n .1)) ∙ n .2))
 
 none-of : (m n : ℕ) → orElse m n ≡ 0 → (m ≡ 0) × (n ≡ 0)
 unfolding orElse
@@ -34,9 +52,9 @@ not-when : (t : Bool) (n : ℕ) → when t (suc n) ≡ 0 → t ≡ false
 not-when true n h = absurd (omega arith)
 not-when false n h = refl
 
-total-most : (s : Surface) → tooLarge s ≡ false → total s ≤ 100000
+small : (s : Surface) → tooLarge s ≡ false → (total s ≤ 100000) × (length (s .knotsU) + length (s .knotsV) ≤ 100034)
 unfolding tooLarge
-total-most s h = ltb-false 100000 (total s) (neither _ _ h .0)
+small s h = let t = neither _ _ h in (ltb-false _ _ (t .0), ltb-false _ _ (t .1))
 
 counted : (s : Surface) → miscounted s ≡ false → (length (s .controls) ≡ 3 * total s) × (length (s .weights) ≡ total s)
 unfolding miscounted
@@ -61,6 +79,7 @@ scale-known s h = by (weighed (s .weights)) refl h
 -- a surface that is accepted
 pub record AcceptedSurface (s : Surface) : Type 0 where
   pub total-most : total s ≤ 100000
+  pub knots-most : length (s .knotsU) + length (s .knotsV) ≤ 100034
   pub controls : length (s .controls) ≡ 3 * total s
   pub weights : length (s .weights) ≡ total s
   pub finite : (i : ℕ) → i < length (s .controls) → isFinite (getD (s .controls) i nan) ≡ true
@@ -76,9 +95,11 @@ accepted-surface s h =
     let t3 = none-of _ _ (t2 .1) in
     let t4 = none-of _ _ (t3 .1) in
     let t5 = none-of _ _ (t4 .1) in
+    let limits = small s (not-when _ _ (t1 .0)) in
     let counts = counted s (not-when _ _ (t2 .0)) in
     record {
-      total-most = total-most s (not-when _ _ (t1 .0));
+      total-most = limits .0;
+      knots-most = limits .1;
       controls = counts .0;
       weights = counts .1;
       finite = λ i l. each-at finite-each (s .controls) i (not-false _ (not-when _ _ (t3 .0))) l;
@@ -86,6 +107,21 @@ accepted-surface s h =
       knots-u = t5 .0;
       knots-v = t5 .1;
     }
+
+-- and a surface of which all that holds is accepted
+pub surface-accepted : (s : Surface) → AcceptedSurface s → refusalOfSurface s ≡ 0
+unfolding refusalOfSurface orElse tooLarge miscounted refusalOf
+surface-accepted s a =
+    simp (
+      le-ltb _ _ (a .total-most),
+      le-ltb _ _ (a .knots-most),
+      eq-eqb _ _ (a .controls),
+      eq-eqb _ _ (a .weights),
+      all-finite (s .controls) (a .finite),
+      a .scale,
+      a .knots-u,
+      a .knots-v,
+    )
 
 pub checked-scale : (s : Surface) (m : Float) → checked s ≡ Check.Scale m → (refusalOfSurface s ≡ 0) × (m ≡ scaleOf s)
 unfolding checked judged
