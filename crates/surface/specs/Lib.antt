@@ -11,4 +11,5 @@ pub mod SumLaws
 pub mod PatchLaws
 pub mod EvaluateLaws
 pub mod NumberLaws
+pub mod LocalityLaws
 pub mod Examples

@@ -18,7 +18,7 @@ use Rattle.patch.specs.declared.Evaluated.{Evaluated}
 use Rattle.patch.specs.declared.Evaluated.the-variants as Eval
 use Rattle.patch.specs.Laws.{FiniteJet}
 use Rattle.surface.specs.declared.Checked.the-variants as Check
-use Rattle.surface.specs.declared.Evaluation.the-variants.{Found, Refusal}
+use Rattle.surface.specs.declared.Evaluation.the-variants.{Found}
 use Rattle.surface.specs.Surface.{Surface, axisU, axisV, orElse, when, tooLarge, miscounted, refusalOfSurface, scaleOf, judged, checked, evaluateBy, orNine, evaluatedBy, evaluated, numberOfChecked, numberOf}
 use Rattle.surface.specs.Table.{Line, this, next, None, TooLarge, Miscounted, NotFinite, KnotLines, SurfaceLines}
 use Rattle.surface.specs.SurfaceLaws.{finite-each, some-not-finite}

@@ -52,7 +52,7 @@ module _ {S T : Type 0} (π : S → T) where
   turns-part f g zero h s = refl
   turns-part f g (suc k) h s = h k (omega arith) _ ∙ ap (g k) (turns-part f g k (λ n l. h n (omega arith)) s)
 
-  over-part : (shape : Shape) (f : ℕ → ℕ → S → S) (g : ℕ → ℕ → T → T) → ((i j : ℕ) → i < rowsOf shape → j < columnsOf shape → (s : S) → π (f i j s) ≡ g i j (π s))
+  pub over-part : (shape : Shape) (f : ℕ → ℕ → S → S) (g : ℕ → ℕ → T → T) → ((i j : ℕ) → i < rowsOf shape → j < columnsOf shape → (s : S) → π (f i j s) ≡ g i j (π s))
       → (s : S) → π (overPatch shape f s) ≡ overPatch shape g (π s)
   over-part shape f g h s = turns-part _ _ _ (λ i l. turns-part (f i) (g i) _ (λ j m. h i j l m)) s
 
