@@ -12,4 +12,5 @@ pub mod PatchLaws
 pub mod EvaluateLaws
 pub mod NumberLaws
 pub mod LocalityLaws
+pub mod WrapLaws
 pub mod Examples
