@@ -2,7 +2,8 @@
 use Rattle.newton.specs.Compute as Newton
 use Rattle.seeds.specs.Compute as Seeds
 use Rattle.inversion.specs.Inversion.{nearer, nearestEnd, led, choose, runs, searched, explored, unlessClose, hinted, plainSteps, inversionBy}
+use Rattle.inversion.specs.Visits.{isClose, visitsOf, search, planned, evaluations, evaluationsBy}
 
 unfoldable pub compute : Unit {0}
-unfolding Newton.compute Seeds.compute nearer nearestEnd led choose runs searched explored unlessClose hinted plainSteps inversionBy
+unfolding Newton.compute Seeds.compute nearer nearestEnd led choose runs searched explored unlessClose hinted plainSteps inversionBy isClose visitsOf search planned evaluations evaluationsBy
 compute = tt

@@ -1,7 +1,9 @@
 pub mod Inversion
+pub mod Visits
 pub mod Compute
 pub mod Nearest
 pub mod GridLaws
 pub mod PriceLaws
 pub mod InversionLaws
+pub mod VisitLaws
 pub mod SurfaceLaws

@@ -11,6 +11,7 @@ use Rattle.vector3.specs.declared.Vector3.{Vector3}
 use Rattle.vector3.specs.Laws.{Finite}
 use Rattle.price.specs.Price.{price}
 use Rattle.price.specs.PriceLaws.{Between, Answers, answers-map}
+use Rattle.price.specs.EvaluationLaws.{Evaluates}
 use Rattle.patch.specs.declared.Jet.{Jet}
 use Rattle.patch.specs.declared.Evaluated.the-variants.{Found}
 use Rattle.patch.specs.Patch.{fromMark}
@@ -29,8 +30,10 @@ use Rattle.grid.specs.AxisLaws.{axis-count}
 use Rattle.seeds.specs.Finite.{from-mark-number}
 use Rattle.inversion.specs.declared.Hint.{Hint}
 use Rattle.inversion.specs.Inversion.{led, inversionBy}
+use Rattle.inversion.specs.Visits.{evaluationsBy}
 use Rattle.inversion.specs.Nearest.{First}
 use Rattle.inversion.specs.PriceLaws as Prices
+use Rattle.inversion.specs.VisitLaws.{steps-evaluate}
 use Rattle.inversion.specs.InversionLaws as Plain
 use Rattle.inversion.specs.InversionLaws.{far}
 
@@ -62,6 +65,13 @@ module _ (s : Surface) (m : Float) (ok : refusalOfSurface s ≡ 0) where
   price-bounds mark hint tolerance =
       let a = accepted-surface s ok in
       Prices.price-bounds (domainOf s) mark (evaluateBy s m) (valuesOf (axisU s)) (valuesOf (axisV s)) (counted (axisU s) (a .knots-u)) (counted (axisV s) (a .knots-v)) hint tolerance
+
+  -- the price is the number of pairs that the plain steps evaluate; where they are answered all are found, and where not the last is refused and no other
+  pub price-is-count : (mark : Vector3) (hint : Hint) (tolerance : Float) → Evaluates (evaluateBy s m) (inversionBy s m mark hint tolerance) (evaluationsBy s m mark hint tolerance)
+  unfolding inversionBy evaluationsBy
+  price-is-count mark hint tolerance =
+      let a = accepted-surface s ok in
+      steps-evaluate (domainOf s) mark (evaluateBy s m) (valuesOf (axisU s)) (valuesOf (axisV s)) (counted (axisU s) (a .knots-u) .above) (counted (axisV s) (a .knots-v) .above) hint tolerance
 
   -- "Before that shift, axes without the periodic flag stay in their knot domain"
   pub in-domain : (mark : Vector3) (hint : Hint) (tolerance : Float)

@@ -9,7 +9,7 @@ use Rattle.patch.specs.declared.Jet.{Jet}
 use Rattle.patch.specs.declared.Evaluated.{Evaluated}
 use Rattle.patch.specs.declared.Evaluated.the-variants.{Found, Refused}
 use Rattle.price.specs.Price.{Priced, refused, answered, price, after, mapped, _then_}
-use Rattle.price.specs.PriceLaws.{after-price, mapped-price}
+use Rattle.price.specs.PriceLaws.{after-price}
 use Rattle.price.specs.Evaluations.{Pair, unlessRefused, until}
 
 module _ (eval : Float → Float → Evaluated) where
