@@ -18,30 +18,32 @@ pub data Numbers : List Start → Type 0 where
   none : Numbers []
   more : {p : Start} {ps : List Start} → isNan (p .distance) ≡ false → Numbers ps → Numbers (p ∷ ps)
 
-abbrev near : Start → Start → Bool
+-- p is no further than q
+abbrev pub near : Start → Start → Bool
 near p q = le (p .distance) (q .distance)
 
-abbrev level : Start → Start → Bool
+-- p is as far as q
+abbrev pub level : Start → Start → Bool
 level p q = eq (p .distance) (q .distance)
 
 -- ---- what tests say of other tests
-near-trans : (p q r : Start) → near p q ≡ true → near q r ≡ true → near p r ≡ true
+pub near-trans : (p q r : Start) → near p q ≡ true → near q r ≡ true → near p r ≡ true
 near-trans p q r = le-trans (p .distance) (q .distance) (r .distance)
 
-level-sym : (p q : Start) → level p q ≡ level q p
+pub level-sym : (p q : Start) → level p q ≡ level q p
 level-sym p q = eq-sym (p .distance) (q .distance)
 
-level-near : (p q : Start) → level p q ≡ true → near p q ≡ true
+pub level-near : (p q : Start) → level p q ≡ true → near p q ≡ true
 level-near p q = eq→le (p .distance) (q .distance)
 
-not-level : (p q : Start) → near q p ≡ false → level p q ≡ false
+pub not-level : (p q : Start) → near q p ≡ false → level p q ≡ false
 not-level p q h = eq-le-le (p .distance) (q .distance) ∙ simp (h, and-false)
 
 module _ (p q r : Start) where
   not-near : near p q ≡ true → near p r ≡ false → near q r ≡ false
   not-near h k = never (near q r) (λ g. true≢false (sym (near-trans p q r h g) ∙ k))
 
-  level-same : level p q ≡ true → level p r ≡ level q r
+  pub level-same : level p q ≡ true → level p r ≡ level q r
   level-same h =
       agree _ _ (eq-trans (q .distance) (p .distance) (r .distance) (level-sym q p ∙ h)) (eq-trans (p .distance) (q .distance) (r .distance) h)
 
