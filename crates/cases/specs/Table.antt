@@ -1,32 +1,49 @@
--- The cases that document 01 marks with a dot, as one list, and the theorem that every row holds of the definitions.
--- A heavy row is a lemma of its own, since a declaration may take only so many steps.
-use mathlib.Core.Path.{_≡_, refl}
+-- The cases that document 01 marks with a dot, as one list in its order, and the theorem that every row holds of the definitions.
+-- A row that takes many steps is a lemma of its own, since a declaration may take only so many.
+use mathlib.Core.Path.{_≡_, refl, ap, _∙_}
 use mathlib.Core.Bool.{true, false}
-use mathlib.Core.List.{List, [], _∷_}
-use Prim.Native.Nat.{ℕ}
+use mathlib.Core.List.{List, [], _∷_, _++_, map}
+use Prim.Native.Nat.{ℕ, _<_}
+use native.Mathlib.Omega.{arith}
 use lib.IntN.{pos, negsuc}
-use lib.Ieee.{Float, inf, fin, neg}
+use lib.ListN.{replicate}
+use lib.Ieee.{Float, inf, fin, neg, le}
 use Rattle.float64.specs.Operators.{0·, ½·, 1·, 2·}
 use Rattle.float64.specs.Functions.{root}
 use Rattle.vector3.specs.declared.Vector3.{Vector3}
 use Rattle.spline.specs.declared.weights.Weighed.{Weighed}
 use Rattle.spline.specs.declared.weights.Weighed.the-variants.{Scale, Refused}
 use Rattle.spline.specs.declared.parameter.KnotSide.the-variants.{Right}
-use Rattle.spline.specs.Weights.{weighed}
+use Rattle.spline.specs.Weights.{weighed, refusalOf}
 use Rattle.spline.specs.Knots.{Axis, axis}
 use Rattle.basis.specs.Basis.{Sample, sample, three, basisAt}
-use Rattle.price.specs.Price.{Priced, answered}
+use Rattle.price.specs.Price.{Priced, answered, after, mapped, _then_}
 use Rattle.surface.specs.declared.Counts.{Counts}
-use Rattle.surface.specs.Surface.{Surface, surface, scaleOf, wrapped}
+use Rattle.surface.specs.Surface.{Surface, surface, axisU, axisV, scaleOf, refusalOfSurface, wrapped, evaluateBy}
+use Rattle.surface.specs.Intervals.{domainOf}
 use Rattle.newton.specs.declared.End.{End}
+use Rattle.newton.specs.Run.{run, outcomeOf}
+use Rattle.grid.specs.Axis.{valuesOf}
+use Rattle.shortlist.specs.declared.Start.{Start}
+use Rattle.shortlist.specs.FirstSix.{startAt, startsOf}
+use Rattle.shortlist.specs.Compute as Shortlist
+use Rattle.seeds.specs.Grid.{survey}
 use Rattle.inversion.specs.declared.Hint.{Hint}
 use Rattle.inversion.specs.declared.Hint.the-variants.{Nothing, At}
-use Rattle.inversion.specs.Inversion.{inversionBy}
-use Rattle.chart.specs.Chart.{nearestTo}
+use Rattle.inversion.specs.declared.Best.{Best}
+use Rattle.inversion.specs.declared.Best.the-variants as Best
+use Rattle.inversion.specs.Inversion.{searched, explored, unlessClose, hinted, plainSteps, inversionBy}
+use Rattle.chart.specs.declared.Period.the-variants.{Free}
+use Rattle.chart.specs.declared.Terms.{Terms}
+use Rattle.chart.specs.declared.Placing.{Placing}
+use Rattle.chart.specs.declared.Placing.the-variants as Placing
+use Rattle.chart.specs.Chart.{soundSearch, nearestTo, turned, placingOf}
+use Rattle.chart.specs.Chart as Chart
 use Rattle.inverter.specs.declared.Components.{Components}
 use Rattle.inverter.specs.declared.Components.the-variants.{Along, Refusal}
-use Rattle.inverter.specs.Inverter.{leftOf}
+use Rattle.inverter.specs.Inverter.{placed, numberOf, leftOf}
 use Rattle.inverter.specs.Preimage.{derived}
+use Rattle.inverter.specs.PlacingLaws.{answer-enough, answer-short}
 use Rattle.inverter.specs.Compute.{compute}
 use Rattle.edges.specs.declared.Edge.{Edge}
 use Rattle.edges.specs.declared.Edge.the-variants.{Open, Collapsed}
@@ -40,11 +57,23 @@ use Rattle.edges.specs.Compute as Edges
 abbrev -0· : Float
 -0· = fin true 0 (pos 0)
 
+abbrev ⅛· : Float
+⅛· = fin false 1 (negsuc 2)
+
 abbrev ¼· : Float
 ¼· = fin false 1 (negsuc 1)
 
+abbrev ⅜· : Float
+⅜· = fin false 3 (negsuc 2)
+
+abbrev ⅝· : Float
+⅝· = fin false 5 (negsuc 2)
+
 abbrev ¾· : Float
 ¾· = fin false 3 (negsuc 1)
+
+abbrev ⅞· : Float
+⅞· = fin false 7 (negsuc 2)
 
 abbrev 3· : Float
 3· = fin false 3 (pos 0)
@@ -62,6 +91,10 @@ abbrev 7· : Float
 abbrev least : Float
 least = fin false 1 (negsuc 1073)
 
+-- 1.7e308
+abbrev huge : Float
+huge = fin false 4258857765019067 (pos 972)
+
 -- 0.49999999999999994
 abbrev under-half : Float
 under-half = fin false 9007199254740991 (negsuc 53)
@@ -77,17 +110,24 @@ inside = fin false 4722366482869645 (negsuc 72)
 abbrev linear : Counts
 linear = record { degree = 1; controls = 2; periodic = false }
 
-abbrev ends : List Float
-ends = 0· ∷ 0· ∷ 1· ∷ 1· ∷ []
+-- knots of degree 1 over the domain from 0 to a number
+abbrev to : Float → List Float
+to end = 0· ∷ 0· ∷ end ∷ end ∷ []
 
-abbrev bilinear : List Float → Surface
-bilinear controls = surface (record { u = linear; v = linear }) ends ends controls (1· ∷ 1· ∷ 1· ∷ 1· ∷ [])
+abbrev bilinear : List Float → List Float → Surface
+bilinear knotsV controls = surface (record { u = linear; v = linear }) (to 1·) knotsV controls (replicate 4 1·)
+
+abbrev corners : List Float
+corners = 0· ∷ 0· ∷ 0· ∷ 0· ∷ 1· ∷ 0· ∷ 1· ∷ 0· ∷ 0· ∷ 1· ∷ 1· ∷ 0· ∷ []
 
 abbrev square : Surface
-square = bilinear (0· ∷ 0· ∷ 0· ∷ 0· ∷ 1· ∷ 0· ∷ 1· ∷ 0· ∷ 0· ∷ 1· ∷ 1· ∷ 0· ∷ [])
+square = bilinear (to 1·) corners
+
+abbrev stretched : Surface
+stretched = bilinear (to huge) corners
 
 abbrev dot : Surface
-dot = bilinear (0· ∷ 0· ∷ 0· ∷ 0· ∷ 0· ∷ 0· ∷ 0· ∷ 0· ∷ 0· ∷ 0· ∷ 0· ∷ 0· ∷ [])
+dot = bilinear (to 1·) (replicate 12 0·)
 
 abbrev quadratic : Axis
 quadratic = axis 2 3 (0· ∷ 0· ∷ 0· ∷ 1· ∷ 1· ∷ 1· ∷ [])
@@ -98,33 +138,54 @@ at x y z = record { x = x; y = y; z = z }
 abbrev mark : Vector3
 mark = at ¼· ½· ¾·
 
--- the distance from the mark, and the price
-abbrev pair : Float → Float → Float → ℕ → Priced End
-pair u v distance price = answered (record { u = u; v = v; distance = distance }) price
+-- without periods
+abbrev terms : Hint → Float → Terms
+terms hint tolerance = record { hint = hint; tolerance = tolerance; u = Free; v = Free }
 
-abbrev to : ℕ → Float → Vector3 → Float → Edge
-to k value point side = Collapsed (record { k = k; value = value; point = point; side = side })
+abbrev end : Float → Float → Float → End
+end u v distance = record { u = u; v = v; distance = distance }
+
+abbrev collapsed : ℕ → Float → Vector3 → Float → Edge
+collapsed k value point side = Collapsed (record { k = k; value = value; point = point; side = side })
+
+-- the points of a surface's grid, with their distances from a mark
+abbrev grid : Surface → Vector3 → Priced (List Start)
+grid s m = survey m (evaluateBy s (scaleOf s)) (valuesOf (axisU s)) (valuesOf (axisV s))
+
+-- the eighths from 0 to 1
+abbrev eighths : List Float
+eighths = 0· ∷ ⅛· ∷ ¼· ∷ ⅜· ∷ ½· ∷ ⅝· ∷ ¾· ∷ ⅞· ∷ 1· ∷ []
+
+-- each of them with each, at distance 5
+abbrev points : List Float → List Float → List Start
+points [] vs = []
+points (x ∷ xs) vs = map (startAt 5· x) vs ++ points xs vs
 
 -- ---- the rows
 
 pub data Case : Type 0 where
-  weights : List Float → Weighed → Case
+  weights : List Float → Weighed → ℕ → Case
   basis : Axis → Float → Sample → Case
   wraps : Float → Float → Case
-  inverts : Surface → Vector3 → Hint → Float → Priced End → Case
-  derives : Surface → Float → Float → Vector3 → Components → Case
+  distances : Surface → Vector3 → Priced (List Float) → Case
+  starts : Surface → Vector3 → Priced (List Start) → Case
+  inverts : Surface → Vector3 → Hint → Float → ℕ → Placing → ℕ → Case
+  derives : Surface → Float → Float → Vector3 → Components → ℕ → Case
   collapses : Surface → Float → Edges → Case
   nearest : Float → Float → Float → Case
   roots : Float → Float → Case
 
 abbrev pub Holds : Case → Type 0
-Holds (weights ws r) = weighed ws ≡ r
+Holds (weights ws r number) = (weighed ws ≡ r) × (refusalOf r ≡ number)
 Holds (basis a u r) = basisAt a Right u ≡ r
 -- periodic, the domain 0 to 1
 Holds (wraps t r) = wrapped true 0· 1· t ≡ r
-Holds (inverts s m h t r) = inversionBy s (scaleOf s) m h t ≡ r
+Holds (distances s m r) = mapped (map (λ (p : Start). p .distance)) (grid s m) ≡ r
+Holds (starts s m r) = mapped startsOf (grid s m) ≡ r
+-- without periods, with a budget of which nothing is left
+Holds (inverts s m h t budget r number) = (placed s m (terms h t) budget ≡ r) × (Chart.numberOf r ≡ number) × (Chart.leftOf budget r ≡ 0)
 -- a budget of 1, of which nothing is left
-Holds (derives s u v d r) = (derived s u v d 1 ≡ r) × (leftOf 1 r ≡ 0)
+Holds (derives s u v d r number) = (derived s u v d 1 ≡ r) × (numberOf r ≡ number) × (leftOf 1 r ≡ 0)
 Holds (collapses s t r) = singular s t ≡ r
 -- the period 1
 Holds (nearest value hint r) = nearestTo value hint 1· ≡ r
@@ -134,29 +195,98 @@ abbrev pub All : List Case → Type 0
 All [] = Unit {0}
 All (c ∷ cs) = Holds c × All cs
 
+-- ---- an inversion by its starts: the grid is evaluated in one lemma, and not again
+
+module _ (s : Surface) (m : Vector3) (t : Float) (ss : List Start) (n : ℕ) (h : mapped startsOf (grid s m) ≡ answered ss n) where
+  abbrev onward : Best → ℕ → Priced End
+  onward best k = answered ss n then searched (domainOf s) m (evaluateBy s (scaleOf s)) best k
+
+  free : inversionBy s (scaleOf s) m Nothing t ≡ onward Best.Nothing 0
+  unfolding inversionBy plainSteps explored
+  free = rw h
+
+  beyond : (u v : Float) (e : End) (k : ℕ) → run (domainOf s) m (evaluateBy s (scaleOf s)) u v ≡ answered e k → le (e .distance) t ≡ false → inversionBy s (scaleOf s) m (At u v) t ≡ after k (onward (Best.At e) k)
+  unfolding inversionBy plainSteps hinted unlessClose explored
+  beyond u v e k r f = rw (r, f, h)
+
+module _ (s : Surface) (m : Vector3) (hint : Hint) (t : Float) (e : End) (n : ℕ) (ok : refusalOfSurface s ≡ 0) (sound : soundSearch m (terms hint t) ≡ true) (steps : inversionBy s (scaleOf s) m hint t ≡ answered e n) where
+  enough : placed s m (terms hint t) n ≡ Placing.Pair (turned (terms hint t) e) n
+  unfolding placingOf outcomeOf
+  enough = rw steps at (answer-enough (terms hint t) s ok m sound n (rw steps (omega arith)))
+
+  short : (budget : ℕ) → budget < n → placed s m (terms hint t) budget ≡ Placing.Refusal 8 budget
+  short budget l = answer-short (terms hint t) s ok m sound budget (rw steps l)
+
+-- ---- the rows that take many steps
+
+abbrev pub square-starts : Case
+square-starts =
+    starts square mark (answered (
+    startAt ¾· ¼· ½·
+    ∷ startAt (root (fin false 37 (negsuc 5))) ⅛· ½·
+    ∷ startAt (root (fin false 38 (negsuc 5))) ⅛· ⅜·
+    ∷ startAt (root (fin false 40 (negsuc 5))) 0· ½·
+    ∷ startAt (root (fin false 41 (negsuc 5))) 0· ⅜·
+    ∷ startAt (root (fin false 44 (negsuc 5))) 0· ¼·
+    ∷ []) 81)
+
+square-starts-hold : Holds square-starts
+unfolding compute
+square-starts-hold = refl
+
+square-free-steps : inversionBy square (scaleOf square) mark Nothing ½· ≡ answered (end ¼· ½· ¾·) 92
+unfolding compute
+square-free-steps = free square mark ½· _ 81 square-starts-hold ∙ refl
+
 abbrev pub square-free : Case
-square-free = inverts square mark Nothing ½· (pair ¼· ½· ¾· 92)
+square-free = inverts square mark Nothing ½· 92 (Placing.Pair (end ¼· ½· ¾·) 92) 0
 
 square-free-holds : Holds square-free
 unfolding compute
-square-free-holds = refl
+square-free-holds = (enough square mark Nothing ½· _ 92 refl refl square-free-steps, refl, refl)
+
+abbrev pub square-short : Case
+square-short = inverts square mark Nothing ½· 91 (Placing.Refusal 8 91) 8
+
+square-short-holds : Holds square-short
+unfolding compute
+square-short-holds = (short square mark Nothing ½· _ 92 refl refl square-free-steps 91 (omega arith), refl, refl)
 
 abbrev pub square-far : Case
-square-far = inverts square mark (At ¼· ½·) ½· (pair ¼· ½· ¾· 94)
+square-far = inverts square mark (At ¼· ½·) ½· 94 (Placing.Pair (end ¼· ½· ¾·) 94) 0
 
 square-far-holds : Holds square-far
 unfolding compute
-square-far-holds = refl
+square-far-holds = (enough square mark (At ¼· ½·) ½· _ 94 refl refl (beyond square mark ½· _ 81 square-starts-hold ¼· ½· (end ¼· ½· ¾·) 1 refl refl ∙ refl), refl, refl)
+
+-- the points of the Dot's grid
+dot-points : grid dot (at 3· 4· 0·) ≡ answered (points eighths eighths) 81
+unfolding compute
+dot-points = refl
+
+abbrev pub dot-distances : Case
+dot-distances = distances dot (at 3· 4· 0·) (answered (replicate 81 5·) 81)
+
+dot-distances-hold : Holds dot-distances
+unfolding mapped
+dot-distances-hold = rw dot-points
+
+abbrev pub dot-starts : Case
+dot-starts = starts dot (at 3· 4· 0·) (answered (startAt 5· 0· 0· ∷ []) 81)
+
+dot-starts-hold : Holds dot-starts
+unfolding mapped Shortlist.compute
+dot-starts-hold = ap (mapped startsOf) dot-points ∙ refl
 
 abbrev pub dot-free : Case
-dot-free = inverts dot (at 3· 4· 0·) Nothing 0· (pair inside inside 5· 83)
+dot-free = inverts dot (at 3· 4· 0·) Nothing 0· 83 (Placing.Pair (end inside inside 5·) 83) 0
 
 dot-free-holds : Holds dot-free
 unfolding compute
-dot-free-holds = refl
+dot-free-holds = (enough dot (at 3· 4· 0·) Nothing 0· _ 83 refl refl (free dot (at 3· 4· 0·) 0· _ 81 dot-starts-hold ∙ refl), refl, refl)
 
 abbrev pub square-edges : Case
-square-edges = collapses square ½· (Found (to 0 0· (at ½· 0· 0·) 1·) (to 0 1· (at ½· 1· 0·) (neg 1·)) (to 1 0· (at 0· ½· 0·) 1·) (to 1 1· (at 1· ½· 0·) (neg 1·)))
+square-edges = collapses square ½· (Found (collapsed 0 0· (at ½· 0· 0·) 1·) (collapsed 0 1· (at ½· 1· 0·) (neg 1·)) (collapsed 1 0· (at 0· ½· 0·) 1·) (collapsed 1 1· (at 1· ½· 0·) (neg 1·)))
 
 square-edges-hold : Holds square-edges
 unfolding Edges.compute
@@ -169,34 +299,142 @@ square-open-holds : Holds square-open
 unfolding Edges.compute
 square-open-holds = refl
 
-abbrev pub light : List Case
-light =
-    weights (least ∷ 1· ∷ []) (Scale 1·)
-    ∷ weights (least ∷ 2· ∷ []) Refused
+-- ---- the table
+
+abbrev pub rows : List Case
+rows =
+    -- "Weights 2^-1074 and 1: accepted."
+    weights (least ∷ 1· ∷ []) (Scale 1·) 0
+    -- "2^-1074 and 2: refusal 4"
+    ∷ weights (least ∷ 2· ∷ []) Refused 4
+    -- "Degree 2, knots 0 0 0 1 1 1, u = 0.5: values 0.25 0.5 0.25, first -1 0 1, second 2 -4 2"
     ∷ basis quadratic ½· (sample 0 (three ¼· (neg 1·) 2· ∷ three ½· 0· (neg 4·) ∷ three ¼· 1· 2· ∷ []))
+    -- "Periodic, domain 0 to 1: 1.25 reads as 0.25, -0.25 as 0.75, and 1 stays 1"
     ∷ wraps (fin false 5 (negsuc 1)) ¼·
     ∷ wraps (neg ¼·) ¾·
     ∷ wraps 1· 1·
-    ∷ inverts square mark (At ¼· ½·) ¾· (pair ¼· ½· ¾· 1)
-    ∷ inverts square mark (At ½· ½·) ¾· (pair ¼· ½· ¾· 2)
-    ∷ derives square ¼· ½· (at 3· 5· 7·) (Along 3· 5·)
-    ∷ derives dot ¼· ½· (at 3· 5· 7·) (Refusal 10 1)
+    -- "Square, mark (0.25, 0.5, 0.75), no hint: pair (0.25, 0.5), price 92 (81 for the grid, 11 for six runs)"
+    ∷ square-starts
+    ∷ square-free
+    -- "Budget 91: refusal 8, 0 left."
+    ∷ square-short
+    -- "With hint (0.25, 0.5): tolerance 0.75, price 1"
+    ∷ inverts square mark (At ¼· ½·) ¾· 1 (Placing.Pair (end ¼· ½· ¾·) 1) 0
+    -- "tolerance 0.5, price 94"
+    ∷ square-far
+    -- "Hint (0.5, 0.5), tolerance 0.75: price 2"
+    ∷ inverts square mark (At ½· ½·) ¾· 2 (Placing.Pair (end ¼· ½· ¾·) 2) 0
+    -- "Dot, mark (3, 4, 0), no hint: all distances 5, one start, pair (0.0000005, 0.0000005), price 83"
+    ∷ dot-distances
+    ∷ dot-starts
+    ∷ dot-free
+    -- "`derivative`, square at (0.25, 0.5), vector (3, 5, 7): (3, 5)"
+    ∷ derives square ¼· ½· (at 3· 5· 7·) (Along 3· 5·) 0
+    -- "Dot: refusal 10"
+    ∷ derives dot ¼· ½· (at 3· 5· 7·) (Refusal 10 1) 10
+    -- "`nurbs_singular`, square: all four edges at tolerance 0.5, none just below"
+    ∷ square-edges
+    ∷ square-open
+    -- "`nearest`, period 1: value 0 goes to 1 for hint 0.5, to 0 for 0.49999999999999994, to -1 for -0.5."
     ∷ nearest 0· ½· 1·
     ∷ nearest 0· under-half 0·
     ∷ nearest 0· (neg ½·) (neg 1·)
+    -- "Value -0 stays -0 for hint -0.3 and becomes +0 for 0.3"
     ∷ nearest -0· (neg three-tenths) -0·
     ∷ nearest -0· three-tenths 0·
+    -- "Root of 2^-1074 is 2^-537; of +0, +0; of infinity, infinity"
     ∷ roots least (fin false 1 (negsuc 536))
     ∷ roots 0· 0·
     ∷ roots (inf false) (inf false)
+    -- "Knots 0 0 1.7e308 1.7e308 in v, else the square, no hint: the third v overflows, refusal 9, price 3."
+    ∷ inverts stretched mark Nothing ½· 3 (Placing.Refusal 9 3) 9
+    ∷ inverts stretched mark Nothing ½· 2 (Placing.Refusal 8 2) 8
     ∷ []
 
-light-hold : All light
-unfolding compute
-light-hold = (refl, (refl, (refl, (refl, (refl, (refl, (refl, (refl, ((refl, refl), ((refl, refl), (refl, (refl, (refl, (refl, (refl, (refl, (refl, (refl, tt))))))))))))))))))
-
-abbrev pub rows : List Case
-rows = square-free ∷ square-far ∷ dot-free ∷ square-edges ∷ square-open ∷ light
-
 pub table : All rows
-table = (square-free-holds, (square-far-holds, (dot-free-holds, (square-edges-hold, (square-open-holds, light-hold)))))
+unfolding compute
+table = (
+  (refl, refl),
+  (
+    (refl, refl),
+    (
+      refl,
+      (
+        refl,
+        (
+          refl,
+          (
+            refl,
+            (
+              square-starts-hold,
+              (
+                square-free-holds,
+                (
+                  square-short-holds,
+                  (
+                    (refl, refl, refl),
+                    (
+                      square-far-holds,
+                      (
+                        (refl, refl, refl),
+                        (
+                          dot-distances-hold,
+                          (
+                            dot-starts-hold,
+                            (
+                              dot-free-holds,
+                              (
+                                (refl, refl, refl),
+                                (
+                                  (refl, refl, refl),
+                                  (
+                                    square-edges-hold,
+                                    (
+                                      square-open-holds,
+                                      (
+                                        refl,
+                                        (
+                                          refl,
+                                          (
+                                            refl,
+                                            (
+                                              refl,
+                                              (
+                                                refl,
+                                                (
+                                                  refl,
+                                                  (
+                                                    refl,
+                                                    (
+                                                      refl,
+                                                      (
+                                                        (refl, refl, refl),
+                                                        ((refl, refl, refl), tt),
+                                                      ),
+                                                    ),
+                                                  ),
+                                                ),
+                                              ),
+                                            ),
+                                          ),
+                                        ),
+                                      ),
+                                    ),
+                                  ),
+                                ),
+                              ),
+                            ),
+                          ),
+                        ),
+                      ),
+                    ),
+                  ),
+                ),
+              ),
+            ),
+          ),
+        ),
+      ),
+    ),
+  ),
+)
