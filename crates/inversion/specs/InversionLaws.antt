@@ -21,6 +21,7 @@ use Rattle.newton.specs.Run.{clampInto, run, nudges}
 use Rattle.newton.specs.RunLaws.{Ends, Inside, Reached, run-held, run-in-domain, run-descends}
 use Rattle.shortlist.specs.declared.Start.{Start}
 use Rattle.shortlist.specs.FirstSix.{startsOf}
+use Rattle.shortlist.specs.SortLaws.{numbers-of, NearestSix, starts-nearest-six}
 use Rattle.seeds.specs.Grid.{survey}
 use Rattle.inversion.specs.declared.Hint.{Hint}
 use Rattle.inversion.specs.declared.Hint.the-variants as Hint
@@ -256,6 +257,16 @@ module _ (d : Domain) (mark : Vector3) (eval : Float → Float → Evaluated) wh
         pub ties : First far e (led (c .lead) (c .others))
         ties = nearest-first far nearest-end
 
+        seen : All (Seen mark eval) (c .points)
+        seen = rw (c .whole) at (survey-seen mark eval us vs)
+
+        known : All (Number away) (c .points)
+        known = all-map (Seen mark eval) (Number away) (λ q r. rw (r .distance) (number (q .u) (q .v) (r .jet) (r .found))) (c .points) seen
+
+        -- "the first six of the whole grid sorted by distance, equal distances dropped"
+        pub first-six : NearestSix (c .points) (startsOf (c .points))
+        first-six = starts-nearest-six (c .points) (numbers-of (c .points) (λ p m. all-at (Number away) known m))
+
       -- where an evaluation succeeds, so does that of the clamped pair, with the same result
       module _ (clamped : (u v : Float) (j : Jet) → eval u v ≡ Found j → eval (clampInto (d .u) u) (clampInto (d .v) v) ≡ Found j) where
         start-descends : (s : Start) → Seen mark eval s → nudges d mark eval (s .u) (s .v) ≡ false → Ends (λ e. le (far e) (s .distance) ≡ true) (run d mark eval (s .u) (s .v))
@@ -281,17 +292,11 @@ module _ (d : Domain) (mark : Vector3) (eval : Float → Float → Evaluated) wh
         nearest-start ps (q ∷ qs) f h = (q, f)
 
         module _ {tolerance : Float} {hint : Hint} {e : End} {n : ℕ} (c : Chosen tolerance hint e n) where
-          seen : All (Seen mark eval) (c .points)
-          seen = rw (c .whole) at (survey-seen mark eval us vs)
-
-          known : All (Number away) (c .points)
-          known = all-map (Seen mark eval) (Number away) (λ q r. rw (r .distance) (number (q .u) (q .v) (r .jet) (r .found))) (c .points) seen
-
           from-nearest : (s : Start) → Nearest away s (c .points) → nudges d mark eval (s .u) (s .v) ≡ false → (u v : Float) → List·Memᴰ u us → List·Memᴰ v vs → AsFar e u v
           from-nearest s h k u v mu mv =
-              let f = nearest-descends (c .points) (startsOf (c .points)) (c .others) (c .made) seen (starts-fronted (c .points) known) (c .ran) s h k in
+              let f = nearest-descends (c .points) (startsOf (c .points)) (c .others) (c .made) (seen c) (starts-fronted (c .points) (known c)) (c .ran) s h k in
               let a = f .0 in
-              let least = nearest-least away (all-at (Number away) known (nearest-member away h)) h in
+              let least = nearest-least away (all-at (Number away) (known c) (nearest-member away h)) h in
               let g = survey-found mark eval us vs (c .points) (length us * length vs) (c .whole) u v mu mv in
               let j = g .0 in
               let point = rw (c .whole) at (survey-meets mark eval u v j (g .1) us vs mu mv) in
@@ -307,5 +312,5 @@ module _ (d : Domain) (mark : Vector3) (eval : Float → Float → Evaluated) wh
           grid-no-nearer hu hv =
               let count = rw (c .whole) at (survey-counted mark eval us vs) in
               let some : 1 ≤ length us * length vs = mul-le-mul hu hv in
-              let s = nearest-start (c .points) (startsOf (c .points)) (starts-fronted (c .points) known) (starts-some (c .points) (omega (arith, count .0))) in
+              let s = nearest-start (c .points) (startsOf (c .points)) (starts-fronted (c .points) (known c)) (starts-some (c .points) (omega (arith, count .0))) in
               record { nearest = s .0; first = nearest-first away (s .1); beyond = from-nearest (s .0) (s .1) }

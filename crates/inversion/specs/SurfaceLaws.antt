@@ -27,7 +27,11 @@ use Rattle.newton.specs.RunLaws.{Ends}
 use Rattle.shortlist.specs.declared.Start.{Start}
 use Rattle.grid.specs.Axis.{valuesOf}
 use Rattle.grid.specs.AxisLaws.{axis-count}
+use Rattle.shortlist.specs.FirstSix.{startsOf}
+use Rattle.shortlist.specs.SortLaws.{NearestSix}
 use Rattle.seeds.specs.Finite.{from-mark-number}
+use Rattle.seeds.specs.Visits.{gridOf}
+use Rattle.seeds.specs.VisitLaws.{PointsOf, survey-grid}
 use Rattle.inversion.specs.declared.Hint.{Hint}
 use Rattle.inversion.specs.Inversion.{led, inversionBy}
 use Rattle.inversion.specs.Visits.{evaluationsBy}
@@ -100,6 +104,14 @@ module _ (s : Surface) (m : Float) (ok : refusalOfSurface s ≡ 0) where
       -- "Otherwise it is the nearest of the ends of the hint's run, if any, and of the runs from the first six .. ; the hint wins ties, then the earlier"
       pub nearest-end : First far e (led (c .lead) (c .others))
       nearest-end = Plain.ties (domainOf s) mark (evaluateBy s m) (valuesOf (axisU s)) (valuesOf (axisV s)) number c
+
+      -- "the whole grid": the points are those of each u value with each v value, u-major, with the distances of their evaluations
+      pub whole-grid : PointsOf mark (evaluateBy s m) (gridOf (valuesOf (axisU s)) (valuesOf (axisV s))) (c .points)
+      whole-grid = rw (c .whole) at (survey-grid mark (evaluateBy s m) (valuesOf (axisU s)) (valuesOf (axisV s)))
+
+      -- "the first six of the whole grid sorted by distance, equal distances dropped"
+      pub first-six : NearestSix (c .points) (startsOf (c .points))
+      first-six = Plain.first-six (domainOf s) mark (evaluateBy s m) (valuesOf (axisU s)) (valuesOf (axisV s)) number c
 
       -- "every grid point is at least as far as the pair, unless the run from the nearest, the first in the grid among equals, was nudged"
       pub grid-no-nearer : NoNearer s m mark (c .points) e

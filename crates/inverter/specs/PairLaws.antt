@@ -11,6 +11,10 @@ use Rattle.vector3.specs.Laws.{Finite, vector-finite}
 use Rattle.surface.specs.Surface.{Surface, axisU, axisV, scaleOf, refusalOfSurface, evaluateBy}
 use Rattle.surface.specs.Intervals.{domainOf}
 use Rattle.grid.specs.Axis.{valuesOf}
+use Rattle.shortlist.specs.FirstSix.{startsOf}
+use Rattle.shortlist.specs.SortLaws.{NearestSix}
+use Rattle.seeds.specs.Visits.{gridOf}
+use Rattle.seeds.specs.VisitLaws.{PointsOf}
 use Rattle.price.specs.Price.{Priced, refused, answered, price}
 use Rattle.newton.specs.declared.End.{End}
 use Rattle.newton.specs.Run.{run}
@@ -20,7 +24,7 @@ use Rattle.inversion.specs.declared.Hint.the-variants.{At}
 use Rattle.inversion.specs.Inversion.{led, inversionBy}
 use Rattle.inversion.specs.Nearest.{First}
 use Rattle.inversion.specs.InversionLaws.{far, taken, among, hint-taken, pair-held}
-use Rattle.inversion.specs.SurfaceLaws.{InDomain, Paired, Chosen, NoNearer, in-domain, nearest-end, grid-no-nearer, paired}
+use Rattle.inversion.specs.SurfaceLaws.{InDomain, Paired, Chosen, NoNearer, in-domain, whole-grid, first-six, nearest-end, grid-no-nearer, paired}
 use Rattle.chart.specs.declared.Terms.{Terms}
 use Rattle.chart.specs.declared.Placing.the-variants.{Pair}
 use Rattle.chart.specs.Chart.{soundSearch, turned}
@@ -39,9 +43,11 @@ module _ (s : Surface) (ok : refusalOfSurface s ≡ 0) (mark : Vector3) (terms :
   -- "Otherwise it is the nearest of the ends of the hint's run, if any, and of the runs from the first six of the whole grid sorted by distance, equal distances dropped; the hint wins ties, then the earlier."
   pub record Otherwise (e : End) (n : ℕ) : Type 0 where
     pub chosen : Chosen s (scaleOf s) mark (terms .tolerance) (terms .hint) e n
+    pub grid : PointsOf mark (evaluateBy s (scaleOf s)) (gridOf (valuesOf (axisU s)) (valuesOf (axisV s))) (chosen .points)
+    pub starts : NearestSix (chosen .points) (startsOf (chosen .points))
     pub nearest : First far e (led (chosen .lead) (chosen .others))
     -- "In the second case every grid point is at least as far as the pair, unless the run from the nearest, the first in the grid among equals, was nudged."
-    pub grid : NoNearer s (scaleOf s) mark (chosen .points) e
+    pub no-nearer : NoNearer s (scaleOf s) mark (chosen .points) e
 
   pub data Source (e : End) (n : ℕ) : Type 0 where
     -- "the hint run's end where that lies within tolerance"
@@ -65,7 +71,13 @@ module _ (s : Surface) (ok : refusalOfSurface s ≡ 0) (mark : Vector3) (terms :
   source-of hint h (taken p t) = hint-end h p t
   source-of hint h (among c) =
       let k = rw (← h) at c in
-      otherwise (record { chosen = k; nearest = nearest-end s (scaleOf s) ok mark finite k; grid = grid-no-nearer s (scaleOf s) ok mark finite k })
+      otherwise (record {
+        chosen = k;
+        grid = whole-grid s (scaleOf s) ok mark finite k;
+        starts = first-six s (scaleOf s) ok mark finite k;
+        nearest = nearest-end s (scaleOf s) ok mark finite k;
+        no-nearer = grid-no-nearer s (scaleOf s) ok mark finite k;
+      })
 
   by-steps : (p : Priced End) → stepsOf s mark terms ≡ p → (e : End) (n : ℕ) → resultOf terms p ≡ Pair e n → Shifted e n
   unfolding inversionBy

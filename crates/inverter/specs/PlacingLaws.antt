@@ -14,14 +14,16 @@ use Rattle.float64.specs.RoundLaws.{round-away-twice}
 use Rattle.vector3.specs.declared.Vector3.{Vector3}
 use Rattle.surface.specs.declared.Checked.{Checked}
 use Rattle.surface.specs.declared.Checked.the-variants as Check
-use Rattle.surface.specs.Surface.{Surface, scaleOf, refusalOfSurface, judged, checked}
+use Rattle.surface.specs.Surface.{Surface, scaleOf, refusalOfSurface, judged, checked, evaluateBy}
 use Rattle.price.specs.Price.{Priced, refused, answered, Paid, paid, spend}
 use Rattle.price.specs.Price as Price
 use Rattle.price.specs.PriceLaws.{Between, spend-enough, spend-short}
+use Rattle.price.specs.EvaluationLaws.{Evaluates}
 use Rattle.newton.specs.declared.End.{End}
 use Rattle.newton.specs.Run.{outcomeOf}
 use Rattle.inversion.specs.Inversion.{inversionBy}
-use Rattle.inversion.specs.SurfaceLaws.{price-bounds}
+use Rattle.inversion.specs.Visits.{evaluationsBy}
+use Rattle.inversion.specs.SurfaceLaws.{price-bounds, price-is-count}
 use Rattle.chart.specs.declared.Terms.{Terms}
 use Rattle.chart.specs.declared.Placing.{Placing}
 use Rattle.chart.specs.declared.Placing.the-variants.{Pair, Refusal}
@@ -72,6 +74,10 @@ module _ (terms : Terms) where
     pub answer-short : (budget : ℕ) → budget < Price.price steps → placed s mark terms budget ≡ Refusal 8 budget
     unfolding placingOf outcomeOf
     answer-short budget h = answer-is budget ∙ ap (λ (p : Paid End). placingOf budget terms (outcomeOf p)) (spend-short budget steps h)
+
+    -- "01's count of evaluations": the price is the number of pairs that the plain steps evaluate, in order; where they are answered all are found, and where not the last is refused and no other
+    pub price-counts : Evaluates (evaluateBy s (scaleOf s)) (stepsOf s mark terms) (evaluationsBy s (scaleOf s) mark (terms .hint) (terms .tolerance))
+    price-counts = price-is-count s (scaleOf s) ok mark (terms .hint) (terms .tolerance)
 
     -- "one price, .. 1 to 37,513, whatever its budget: with that much or more it gives the same result, that of 01's plain steps, and takes exactly the price, with less refusal 8 and 0 left"
     pub one-price : OnePrice (placed s mark terms) (Price.price (stepsOf s mark terms)) (resultOf terms (stepsOf s mark terms))

@@ -30,7 +30,7 @@ number-at : {p : Start} {ps : List Start} → Numbers ps → List·Memᴰ p ps �
 number-at (more n ns) (List·Memᴰ·head e) = rw e n
 number-at (more n ns) (List·Memᴰ·tail m) = number-at ns m
 
-numbers-of : (ps : List Start) → ((p : Start) → List·Memᴰ p ps → isNan (p .distance) ≡ false) → Numbers ps
+pub numbers-of : (ps : List Start) → ((p : Start) → List·Memᴰ p ps → isNan (p .distance) ≡ false) → Numbers ps
 numbers-of [] h = none
 numbers-of (p ∷ ps) h = more (h p (List·Memᴰ·head refl)) (numbers-of ps (λ q m. h q (List·Memᴰ·tail m)))
 
@@ -111,7 +111,7 @@ module _ (d : Float) where
 -- ---- equal distances dropped
 
 -- the first of the list at its distance
-pub record First (ps : List Start) (p : Start) : Type 0 where
+pub record Earliest (ps : List Start) (p : Start) : Type 0 where
   pub later : List Start
   pub first : atDistance (p .distance) ps ≡ p ∷ later
 
@@ -124,7 +124,7 @@ pub record Met (ps : List Start) (p : Start) : Type 0 where
 -- of every distance in the list its first point, and no other, rising
 pub record Firsts (ps ss : List Start) : Type 0 where
   pub rising : Ordered nearer ss
-  pub first : (s : Start) → List·Memᴰ s ss → First ps s
+  pub first : (s : Start) → List·Memᴰ s ss → Earliest ps s
   pub every : (p : Start) → List·Memᴰ p ps → Met ss p
 
 at-member : (d : Float) (ps : List Start) {p : Start} {later : List Start} → atDistance d ps ≡ p ∷ later → List·Memᴰ p ps
@@ -136,16 +136,16 @@ at-member d (q ∷ qs) {p} {later} e = by (eq (q .distance) d) e (at-member d qs
     by false f rest = List·Memᴰ·tail (rest f)
 
 -- it is a point of the list
-pub first-member : {ps : List Start} {p : Start} → First ps p → List·Memᴰ p ps
+pub first-member : {ps : List Start} {p : Start} → Earliest ps p → List·Memᴰ p ps
 first-member {ps} {p} f = at-member (p .distance) ps (f .first)
 
 module _ (p q : Start) (qs ss : List Start) where
   -- q is as far as p
   module _ (k : level p q ≡ true) (f : Firsts (p ∷ qs) ss) where
-    dropped-first : (s : Start) → First (p ∷ qs) s → First (p ∷ q ∷ qs) s
+    dropped-first : (s : Start) → Earliest (p ∷ qs) s → Earliest (p ∷ q ∷ qs) s
     dropped-first s g = by (level p s) refl (g .first)
       where
-        by : (t : Bool) → level p s ≡ t → cond t (p ∷ atDistance (s .distance) qs) (atDistance (s .distance) qs) ≡ s ∷ g .later → First (p ∷ q ∷ qs) s
+        by : (t : Bool) → level p s ≡ t → cond t (p ∷ atDistance (s .distance) qs) (atDistance (s .distance) qs) ≡ s ∷ g .later → Earliest (p ∷ q ∷ qs) s
         by true a e = record { later = atDistance (s .distance) (q ∷ qs); first = rw a (ap (λ (r : Start). r ∷ atDistance (s .distance) (q ∷ qs)) (head-eq-of-cons-eq e)) }
         by false a e = record { later = g .later; first = rw (a, sym (level-same p q s k) ∙ a) e }
 
@@ -174,7 +174,7 @@ module _ (p q : Start) (qs ss : List Start) where
     held : Firsts (p ∷ q ∷ qs) (p ∷ ss)
     held = record { rising = (below, f .rising); first = first-of; every = met }
       where
-        first-of : (s : Start) → List·Memᴰ s (p ∷ ss) → First (p ∷ q ∷ qs) s
+        first-of : (s : Start) → List·Memᴰ s (p ∷ ss) → Earliest (p ∷ q ∷ qs) s
         first-of s (List·Memᴰ·head e) = rw e (record { later = atDistance (p .distance) (q ∷ qs); first = rw (eq-refl (p .distance) (n .0)) })
         first-of s (List·Memᴰ·tail m) =
             let g = f .first s m in
@@ -189,7 +189,7 @@ module _ (p q : Start) (qs ss : List Start) where
 alone : (p : Start) → isNan (p .distance) ≡ false → Firsts (p ∷ []) (p ∷ [])
 alone p n = record { rising = (λ r m. absurd (List·Memᴰ·not-nil m), tt); first = first-of; every = met }
   where
-    first-of : (s : Start) → List·Memᴰ s (p ∷ []) → First (p ∷ []) s
+    first-of : (s : Start) → List·Memᴰ s (p ∷ []) → Earliest (p ∷ []) s
     first-of s m = rw (List·Memᴰ·eq-of-singleton m) (record { later = []; first = rw (eq-refl (p .distance) n) })
 
     met : (r : Start) → List·Memᴰ r (p ∷ []) → Met (p ∷ []) r
@@ -218,10 +218,10 @@ abbrev pub Beyond : ℕ → List Start → Start → Type 0
 Beyond n ss p = (length ss ≡ n) × ((s : Start) → List·Memᴰ s ss → nearer s p ≡ true)
 
 -- at most six, rising, each the first of all points at its distance; a point at no start's distance is further than six starts
-pub record Chosen (ps ss : List Start) : Type 0 where
+pub record NearestSix (ps ss : List Start) : Type 0 where
   pub six : length ss ≤ 6
   pub rising : Ordered nearer ss
-  pub first : (s : Start) → List·Memᴰ s ss → First ps s
+  pub first : (s : Start) → List·Memᴰ s ss → Earliest ps s
   pub rest : (p : Start) → List·Memᴰ p ps → Met ss p ⊎ Beyond 6 ss p
 
 take-member : (n : ℕ) (ss : List Start) {s : Start} → List·Memᴰ s (take n ss) → List·Memᴰ s ss
@@ -257,9 +257,9 @@ met-or-beyond n ss o p l = by (taken n ss o (l .point) (l .member))
     by (inr f) = inr (f .0, λ s m. lt-eq (s .distance) (l .point .distance) (p .distance) (f .1 s m) (level-sym (l .point) p ∙ l .as-far))
 
 -- "the first six of the whole grid sorted by distance, equal distances dropped"
-pub starts-chosen : (ps : List Start) → Numbers ps → Chosen ps (startsOf ps)
+pub starts-nearest-six : (ps : List Start) → Numbers ps → NearestSix ps (startsOf ps)
 unfolding startsOf
-starts-chosen ps ns =
+starts-nearest-six ps ns =
     let ss : List Start = apart (sorted ps) in
     let f : Firsts (sorted ps) ss = apart-firsts (sorted ps) (numbers-of (sorted ps) (sorted-numbers ps ns)) (sorted-rises ps ns) in
     record {
