@@ -11,7 +11,9 @@ float-to-bits-put-hex : tie.Need-float-to-bits-put-hex
 float-to-bits-put-hex c = simp (c .before .before .pre .1) tt
 
 float-to-bits-put-hex-2 : tie.Need-float-to-bits-put-hex-2
-float-to-bits-put-hex-2 c = simp (c .before .before .before .before .before .before .before .before .before .before .before .pre .2) tt
+float-to-bits-put-hex-2 c =
+    let p = c .before .before .before .before .before .before .before .before .before .before .before .pre in
+    simp (p .1, p .2) tt
 
 returns : tie.Need-returns
 unfolding pairLine ascii
