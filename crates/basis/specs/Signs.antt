@@ -31,6 +31,7 @@ round-0 : (s : Bool) (c : ℕ) → 0 < c → round binary64 s 0 c ≡ fin s 0 (p
 unfolding Float64.compute
 round-0 s c h = round-same binary64 s 0 c 0 1 h (lit< tt) (sym (zero-mul c))
 
+-- whatever the other factor or the divisor is
 pub nought-mul : (q : Float) {z : Float} → Nought z → Nought (q ⊗ z)
 unfolding mul
 nought-mul nan z = missing
@@ -84,7 +85,7 @@ rise true a true b c C h =
     let l : a ≤ b = either (ltb a b) (eqb b a) _ (λ t. omega (arith, ltb-true a b t)) (λ t. omega (arith, eqb-true b a t)) h in
     rw (le-ltb b a l) (cond-above (ltb a b) (above (round-nonneg binary64 (b - a) c)) (above (round-nonneg binary64 (a - b) c)))
 
--- of finite x ≤ y
+-- the difference of finite x ≤ y
 pub difference-not-below : (x y : Float) → isFinite x ≡ true → isFinite y ≡ true → le x y ≡ true → NotBelow (y ⊖ x)
 unfolding isFinite sub le
 difference-not-below nan y f g l = absurd (false≢true f)
@@ -99,6 +100,7 @@ by-nan nan = nought missing
 by-nan (inf s) = nought missing
 by-nan (fin s m e) = nought missing
 
+-- the quotient by such a number that is not 0
 pub quotient-not-below : {x l : Float} → NotBelow x → NotBelow l → eq l 0· ≡ false → NotBelow (x ⊘ l)
 unfolding div ofBits
 quotient-not-below {x} p (nought missing) n = by-nan x
@@ -110,6 +112,7 @@ quotient-not-below (above (finite m e)) (above infinite) n = nought (nothing fal
 quotient-not-below (above (finite m e)) (above (finite k d)) n =
     cond-above (eqb k 0) (cond-above (eqb m 0) (nought missing) (above infinite)) (above (round-nonneg binary64 (m * up e * down d) (k * up d * down e)))
 
+-- the product with a number of sign plus
 pub product-not-below : {x y : Float} → NotBelow x → Nonneg y → NotBelow (x ⊗ y)
 unfolding mul
 product-not-below {x} {y} (nought z) q = nought (mul-nought z y)
@@ -131,6 +134,7 @@ more s infinite = infinite
 more true (finite m e) = simp (zero-mul, sub-zero, le-ltb (m * up e * 1) 0 (omega arith)) (round-nonneg binary64 (m * up e * 1) (down e * 1))
 more false (finite m e) = sum-nonneg (finite m e) (finite 0 (pos 0))
 
+-- the sum with a number that is not below 0
 pub sum-plus : {x y : Float} → Plus x → NotBelow y → Plus (x ⊕ y)
 unfolding add
 sum-plus lost q = lost
