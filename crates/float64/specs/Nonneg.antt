@@ -5,7 +5,7 @@ use Prim.Native.Nat.{ℕ, zero, suc, _+_, _-_, _*_, _^_, zero-le}
 use native.Mathlib.Nat.{zero-mul}
 use lib.IntN.{ℤ, pos}
 use lib.Dec.{ltb}
-use lib.Ieee.{Float, nan, inf, fin, Format, binary64, prec, emax, low, up, down, lt, le, isNan, odd, units, round, sum, add, sub, mul, ofBits}
+use lib.Ieee.{Float, nan, inf, fin, Format, binary64, prec, emax, low, up, down, lt, le, isNan, odd, units, round, sum, neg, add, sub, mul, ofBits}
 use lib.Ieee.Fits.{round-is}
 use borrow.Author.Tests.{le-ltb}
 use Rattle.float64.specs.Operators.{_⊕_, _⊖_, _⊗_, 0·}
@@ -90,11 +90,17 @@ sum-number f s a t b c =
     cond-number (Bool·beq s t) _ _ (round-number f s (a + b) c)
     (cond-number (ltb a b) _ _ (round-number f t (b - a) c) (round-number f (s && ltb b a) (a - b) c))
 
--- the difference of finite floats is a number, if perhaps infinite
+-- the sum and the difference of finite floats are numbers, if perhaps infinite
+pub finite-add-number : (x y : Float) → isFinite x ≡ true → isFinite y ≡ true → isNan (x ⊕ y) ≡ false
+unfolding isFinite add
+finite-add-number nan y p q = absurd (false≢true p)
+finite-add-number (inf s) y p q = absurd (false≢true p)
+finite-add-number (fin s m e) nan p q = absurd (false≢true q)
+finite-add-number (fin s m e) (inf t) p q = absurd (false≢true q)
+finite-add-number (fin s m e) (fin t n d) p q = sum-number binary64 s (m * up e * down d) t (n * up d * down e) (down e * down d)
+
 pub finite-sub-number : (x y : Float) → isFinite x ≡ true → isFinite y ≡ true → isNan (x ⊖ y) ≡ false
-unfolding isFinite sub
-finite-sub-number nan y p q = absurd (false≢true p)
-finite-sub-number (inf s) y p q = absurd (false≢true p)
-finite-sub-number (fin s m e) nan p q = absurd (false≢true q)
-finite-sub-number (fin s m e) (inf t) p q = absurd (false≢true q)
-finite-sub-number (fin s m e) (fin t n d) p q = sum-number binary64 s (m * up e * down d) (not t) (n * up d * down e) (down e * down d)
+unfolding isFinite sub neg
+finite-sub-number x nan p q = absurd (false≢true q)
+finite-sub-number x (inf t) p q = absurd (false≢true q)
+finite-sub-number x (fin t n d) p q = finite-add-number x (fin (not t) n d) p refl

@@ -2,7 +2,7 @@ pub mod Sums
 pub mod Surface
 pub mod Compute
 pub mod Flags
-pub mod Table
+pub mod Refusals
 pub mod SurfaceLaws
 pub mod Lent
 pub mod Intervals

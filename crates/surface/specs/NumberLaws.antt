@@ -20,7 +20,7 @@ use Rattle.patch.specs.Laws.{FiniteJet}
 use Rattle.surface.specs.declared.Checked.the-variants as Check
 use Rattle.surface.specs.declared.Evaluation.the-variants.{Found}
 use Rattle.surface.specs.Surface.{Surface, axisU, axisV, orElse, when, tooLarge, miscounted, refusalOfSurface, scaleOf, judged, checked, evaluateBy, orNine, evaluatedBy, evaluated, numberOfChecked, numberOf}
-use Rattle.surface.specs.Table.{Line, this, next, None, TooLarge, Miscounted, NotFinite, KnotLines, SurfaceLines}
+use Rattle.surface.specs.Refusals.{Line, this, next, None, TooLarge, Miscounted, NotFinite, KnotLines, SurfaceLines}
 use Rattle.surface.specs.SurfaceLaws.{finite-each, some-not-finite}
 use Rattle.surface.specs.EvaluateLaws.{evaluate-finite}
 
@@ -106,7 +106,7 @@ module _ (s : Surface) (later : ℕ → Type 0) where
       let two = tested _ _ three 1 _ (wrong-counts s) in
       simp or-else-assoc (tested _ _ two 0 _ (large s))
 
-  -- with lines after the surface's: n is the number of the first whose cause holds
+  -- where the lines after the surface's answer m, all of them answer `orElse (refusalOfSurface s) m` and nothing else
   pub numbered : One later → (m : ℕ) → later m → (n : ℕ) → SurfaceLines s later n ↔ (orElse (refusalOfSurface s) m ≡ n)
   numbered one m l n = (
     λ h. line-one (line-one (line-one (line-one (line-one (line-one (line-one (line-one one))))))) _ _ (surface-tested m l) h,

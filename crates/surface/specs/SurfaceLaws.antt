@@ -1,16 +1,16 @@
 -- What holds of a surface that is accepted, and of a parameter brought into the domain. Assumes nothing.
 use mathlib.Core.Path.{_≡_, refl, sym, ap, _∙_}
-use mathlib.Core.Bool.{Bool, true, false, not, cond, _&&_, _||_, or-true, and-eq-true-iff, true≢false}
+use mathlib.Core.Bool.{Bool, true, false, not, _&&_, _||_, or-true, and-eq-true-iff, true≢false}
 use mathlib.Core.List.{List, [], _∷_}
 use Prim.Native.Nat.{ℕ, zero, suc, _+_, _*_, _≤_, _<_}
 use native.Mathlib.Omega.{arith}
 use lib.Dec.{eqb}
 use lib.ListN.{length, getD}
-use lib.Ieee.{Float, nan, lt, le, isNan}
+use lib.Ieee.{Float, nan, le}
 use borrow.Author.Tests.{ltb-false, eqb-true, not-false, le-ltb, eq-eqb}
 use Rattle.float64.specs.Operators.{_⊕_, _⊖_}
 use Rattle.float64.specs.Functions.{isFinite, clamp, remEuclid}
-use Rattle.float64.specs.Order.{neither, le-refl, le→number, le-not-lt, lt→le}
+use Rattle.float64.specs.Order.{neither}
 use Rattle.spline.specs.declared.weights.Weighed.{Weighed}
 use Rattle.spline.specs.declared.weights.Weighed.the-variants as Weighed
 use Rattle.spline.specs.Weights.{sound, vanishing, isEmpty, weighed, refusalOf}
@@ -19,7 +19,7 @@ use Rattle.spline.specs.Knots.{allFinite, refusalOfKnots}
 use Rattle.spline.specs.Each.{Each, each-at}
 use Rattle.surface.specs.declared.Checked.the-variants as Check
 use Rattle.surface.specs.Surface.{Surface, axisU, axisV, total, orElse, when, tooLarge, miscounted, refusalOfSurface, scaleOf, judged, checked, wrapped}
-use Rattle.surface.specs.Table.{NotFinite}
+use Rattle.surface.specs.Refusals.{NotFinite}
 
 -- ---- the checks
 
@@ -149,29 +149,3 @@ module _ (periodic : Bool) (lo hi t : Float) where
   pub wrap-outside : periodic ≡ true → isFinite t ≡ true → (le lo t && le t hi) ≡ false → wrapped periodic lo hi t ≡ clamp (lo ⊕ remEuclid (t ⊖ lo) (hi ⊖ lo)) lo hi
   unfolding wrapped
   wrap-outside p f o = simp (p, f, o)
-
-clamp-within : (x lo hi : Float) → le lo hi ≡ true → isNan (clamp x lo hi) ≡ false → (le lo (clamp x lo hi) ≡ true) × (le (clamp x lo hi) hi ≡ true)
-unfolding clamp
-clamp-within x lo hi w n = by (lt x lo) (lt hi x) refl refl n
-  where
-    ends : (isNan lo ≡ false) × (isNan hi ≡ false)
-    ends = le→number lo hi w
-
-    by : (a b : Bool) → lt x lo ≡ a → lt hi x ≡ b → isNan (cond a lo (cond b hi x)) ≡ false
-        → (le lo (cond a lo (cond b hi x)) ≡ true) × (le (cond a lo (cond b hi x)) hi ≡ true)
-    by true b e f n = (le-refl lo (ends .0), w)
-    by false true e f n = (w, le-refl hi (ends .1))
-    by false false e f n = (le-not-lt lo x (ends .0) n ∙ ap not e, le-not-lt x hi n (ends .1) ∙ ap not f)
-
--- The answer is a NaN where t - lo overflows.
-pub wrap-domain : (periodic : Bool) (lo hi t : Float) → periodic ≡ true → lt lo hi ≡ true → isFinite t ≡ true → isNan (wrapped periodic lo hi t) ≡ false
-    → (le lo (wrapped periodic lo hi t) ≡ true) × (le (wrapped periodic lo hi t) hi ≡ true)
-wrap-domain periodic lo hi t p w f n = by (le lo t && le t hi) refl
-  where
-    by : (b : Bool) → (le lo t && le t hi) ≡ b → (le lo (wrapped periodic lo hi t) ≡ true) × (le (wrapped periodic lo hi t) hi ≡ true)
-    by true e =
-        let h = and-eq-true-iff (le lo t) (le t hi) .0 e in
-        rw (wrap-inside periodic lo hi t (h .0) (h .1)) h
-    by false e =
-        let o = wrap-outside periodic lo hi t p f e in
-        rw o (clamp-within _ lo hi (lt→le lo hi w) (rw o at n))

@@ -1,70 +1,46 @@
 -- Where a parameter that is brought into the domain of an axis lies, and when it is a NaN. Assumes nothing.
-use mathlib.Core.Path.{_≡_, refl, sym, ap, ap₂, _∙_}
+use mathlib.Core.Path.{_≡_, refl, ap, _∙_}
 use mathlib.Core.Bool.{Bool, true, false, not, cond, _&&_, true≢false, false≢true, and-eq-true-iff}
-use Prim.Native.Nat.{ℕ, suc, _+_, _-_, _*_, _^_, _≤_, _<_}
-use native.Mathlib.Nat.{one-mul, sub-zero, zero-mul, add-mul, mul-comm, mul-sub, mul-assoc, mul-right-comm, mul-pos, mul-le-mul-right, mul-lt-mul-of-pos-right, lt-of-mul-lt-mul-right, suc-mul}
-use native.Mathlib.Omega.{arith}
-use lib.IntN.{ℤ}
-use lib.Dec.{T, ltb}
-use lib.Pow.{pow-pos}
-use lib.Ieee.{Float, nan, inf, fin, binary64, up, down, below, round, size, sum, neg, sub, add, lt, le, isNan, ofBits, fits}
-use lib.Ieee.Fits.{down-pos, sub-fits}
-use lib.Ieee.Order.{round-mono}
-use borrow.Author.Tests.{ltb-true, le-ltb}
-use Rattle.float64.specs.Operators.{_⊕_, _⊖_, 0·}
+use lib.Dec.{T}
+use lib.Ieee.{Float, nan, inf, fin, binary64, add, lt, le, isNan, fits}
+use lib.Ieee.Fits.{sub-fits}
+use Rattle.float64.specs.Operators.{_⊕_, _⊖_}
 use Rattle.float64.specs.Functions.{isFinite, abs, clamp, remEuclid}
-use Rattle.float64.specs.Order.{finite→number, lt-le-trans}
-use Rattle.float64.specs.Nonneg.{finite-sub-number}
-use Rattle.float64.specs.Differences.{apart}
+use Rattle.float64.specs.Order.{finite→number, le-refl, le→number, le-not-lt, lt→le}
+use Rattle.float64.specs.Nonneg.{finite-add-number}
+use Rattle.float64.specs.Differences.{apart, difference-above}
 use Rattle.float64.specs.Magnitude.{Positive, positive, is-positive}
 use Rattle.float64.specs.RemainderLaws.{rem-euclid-exact, rem-euclid-special}
-use Rattle.float64.specs.Units.{Double, double, units-counted}
 use Rattle.surface.specs.Surface.{wrapped}
 use Rattle.surface.specs.SurfaceLaws.{wrap-inside, wrap-outside}
 
--- ---- the width of a domain of doubles is above 0
+-- ---- it lies in the domain or is a NaN
 
-is-true : (t : Bool) → T t → t ≡ true
-is-true true h = refl
-is-true false h = absurd h
+clamp-within : (x lo hi : Float) → le lo hi ≡ true → isNan (clamp x lo hi) ≡ false → (le lo (clamp x lo hi) ≡ true) × (le (clamp x lo hi) hi ≡ true)
+unfolding clamp
+clamp-within x lo hi w n = by (lt x lo) (lt hi x) refl refl n
+  where
+    ends : (isNan lo ≡ false) × (isNan hi ≡ false)
+    ends = le→number lo hi w
 
-least-above : lt 0· (round binary64 false 1 (2 ^ 1074)) ≡ true
-unfolding lt round size ofBits
-least-above = refl
+    by : (a b : Bool) → lt x lo ≡ a → lt hi x ≡ b → isNan (cond a lo (cond b hi x)) ≡ false
+        → (le lo (cond a lo (cond b hi x)) ≡ true) × (le (cond a lo (cond b hi x)) hi ≡ true)
+    by true b e f n = (le-refl lo (ends .0), w)
+    by false true e f n = (w, le-refl hi (ends .1))
+    by false false e f n = (le-not-lt lo x (ends .0) n ∙ ap not e, le-not-lt x hi n (ends .1) ∙ ap not f)
 
--- what is at least the smallest double rounds to above 0
-round-above : (k c : ℕ) → 0 < c → c ≤ k * 2 ^ 1074 → lt 0· (round binary64 false k c) ≡ true
-round-above k c C h = lt-le-trans 0· (round binary64 false 1 (2 ^ 1074)) _ least-above (is-true _ (round-mono binary64 1 (2 ^ 1074) k c (pow-pos 1074) C (rw one-mul h)))
-
--- of two fractions over c that are whole numbers of units, the larger is more by a unit or more
-unit-apart : (a A b B c : ℕ) → 0 < c → a * 2 ^ 1074 ≡ A * c → b * 2 ^ 1074 ≡ B * c → b < a → c ≤ (a - b) * 2 ^ 1074
-unit-apart a A b B c C e f h =
-    let l = 2 ^ 1074 in
-    let less : B < A = lt-of-mul-lt-mul-right c (rw (← e, ← f) (mul-lt-mul-of-pos-right h (pow-pos 1074))) in
-    rw (mul-comm (a - b) l, mul-sub l a b, mul-comm l a, mul-comm l b, e, f) (omega (arith, suc-mul B c, mul-le-mul-right {m = suc B} {n = A} c less))
-
-module _ (a A b B c : ℕ) (C : 0 < c) (e : a * 2 ^ 1074 ≡ A * c) (f : b * 2 ^ 1074 ≡ B * c) where
-  difference : (s t : Bool) → below t b s a ≡ true → lt 0· (sum binary64 s a (not t) b c) ≡ true
-  unfolding sum
-  difference false false h = let l = ltb-true b a h in rw (le-ltb a b (omega arith)) (round-above (a - b) c C (unit-apart a A b B c C e f l))
-  difference false true h = round-above (a + b) c C (rw sub-zero at (unit-apart (a + b) (A + B) 0 0 c C (add-mul a b _ ∙ ap₂ _+_ e f ∙ sym (add-mul A B c)) (simp zero-mul) (omega (arith, ltb-true 0 (b + a) h))))
-  difference true false h = absurd (false≢true h)
-  difference true true h = rw h (round-above (b - a) c C (unit-apart b B a A c C f e (ltb-true a b h)))
-
-in-units : {m : ℕ} {e : ℤ} (d : ℕ) (x : Double m e) → m * up e * d * 2 ^ 1074 ≡ m * 2 ^ x .shift * (down e * d)
-in-units {m} {e} d x = mul-right-comm (m * up e) d (2 ^ 1074) ∙ ap (λ (z : ℕ). z * d) (units-counted x) ∙ mul-assoc _ _ _
-
--- the lesser of two doubles, taken from the larger, leaves more than 0
-difference-above : (x y : Float) → T (fits binary64 x) → T (fits binary64 y) → isFinite x ≡ true → isFinite y ≡ true → lt x y ≡ true → lt 0· (y ⊖ x) ≡ true
-unfolding isFinite lt sub
-difference-above nan y F G f g h = absurd (false≢true f)
-difference-above (inf t) y F G f g h = absurd (false≢true f)
-difference-above (fin t n d) nan F G f g h = absurd (false≢true g)
-difference-above (fin t n d) (inf s) F G f g h = absurd (false≢true g)
-difference-above (fin t n d) (fin s m e) F G f g h =
-    let X = double t n d F in
-    let Y = double s m e G in
-    difference (m * up e * down d) _ (n * up d * down e) _ (down e * down d) (mul-pos (down-pos e) (down-pos d)) (in-units (down d) Y) (in-units (down e) X ∙ ap (λ (z : ℕ). n * 2 ^ X .shift * z) (mul-comm (down d) (down e))) s t h
+-- with the flag, a finite parameter is brought into the domain, unless the answer is a NaN (`wrap-nan` says when)
+pub wrap-domain : (periodic : Bool) (lo hi t : Float) → periodic ≡ true → lt lo hi ≡ true → isFinite t ≡ true → isNan (wrapped periodic lo hi t) ≡ false
+    → (le lo (wrapped periodic lo hi t) ≡ true) × (le (wrapped periodic lo hi t) hi ≡ true)
+wrap-domain periodic lo hi t p w f n = by (le lo t && le t hi) refl
+  where
+    by : (b : Bool) → (le lo t && le t hi) ≡ b → (le lo (wrapped periodic lo hi t) ≡ true) × (le (wrapped periodic lo hi t) hi ≡ true)
+    by true e =
+        let h = and-eq-true-iff (le lo t) (le t hi) .0 e in
+        rw (wrap-inside periodic lo hi t (h .0) (h .1)) h
+    by false e =
+        let o = wrap-outside periodic lo hi t p f e in
+        rw o (clamp-within _ lo hi (lt→le lo hi w) (rw o at n))
 
 -- ---- when it is a NaN
 
@@ -98,13 +74,6 @@ rem-finite nan y F G f p = absurd (false≢true f)
 rem-finite (inf s) y F G f p = absurd (false≢true f)
 rem-finite (fin s m e) _ F G f (positive n d N) = rem-euclid-exact s m e false n d F G N .finite
 
-sum-number : (x y : Float) → isFinite x ≡ true → isFinite y ≡ true → isNan (x ⊕ y) ≡ false
-unfolding isFinite sub neg
-sum-number x nan f g = absurd (false≢true g)
-sum-number x (inf t) f g = absurd (false≢true g)
-sum-number x (fin true n d) f g = finite-sub-number x (fin false n d) f refl
-sum-number x (fin false n d) f g = finite-sub-number x (fin true n d) f refl
-
 clamp-number : (x lo hi : Float) → isNan x ≡ false → isNan lo ≡ false → isNan hi ≡ false → isNan (clamp x lo hi) ≡ false
 unfolding clamp
 clamp-number x lo hi n l h = by (lt x lo) (lt hi x)
@@ -123,7 +92,7 @@ smaller-finite (inf s) (fin t n d) f h = absurd (false≢true h)
 smaller-finite (fin s m e) y f h = refl
 
 module _ (lo hi t : Float) (f : isFinite lo ≡ true) (g : isFinite hi ≡ true) (h : isFinite t ≡ true) where
-  -- Of doubles lo below hi that a finite width parts, and a flagged axis: the answer is a NaN exactly where t - lo overflows.
+  -- with the flag, and doubles lo below hi of which hi - lo is finite, the answer is a NaN exactly where t - lo overflows
   pub wrap-nan : T (fits binary64 lo) → T (fits binary64 hi) → lt lo hi ≡ true → isFinite (hi ⊖ lo) ≡ true → isNan (wrapped true lo hi t) ≡ not (isFinite (t ⊖ lo))
   wrap-nan F G w k = by (le lo t && le t hi) (isFinite (t ⊖ lo)) refl refl
     where
@@ -135,4 +104,4 @@ module _ (lo hi t : Float) (f : isFinite lo ≡ true) (g : isFinite hi ≡ true)
       by false false e i = rw (wrap-outside true lo hi t refl h e, rem-nan (t ⊖ lo) (hi ⊖ lo) i, add-nan lo, clamp-nan lo hi) nan-is
       by false true e i =
           let r = rem-finite (t ⊖ lo) (hi ⊖ lo) (sub-fits binary64 t lo) (sub-fits binary64 hi lo) i (is-positive _ k (difference-above lo hi F G f g w)) in
-          rw (wrap-outside true lo hi t refl h e) (clamp-number _ lo hi (sum-number lo _ f r) (finite→number lo f) (finite→number hi g))
+          rw (wrap-outside true lo hi t refl h e) (clamp-number _ lo hi (finite-add-number lo _ f r) (finite→number lo f) (finite→number hi g))
