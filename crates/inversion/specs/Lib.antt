@@ -7,3 +7,4 @@ pub mod PriceLaws
 pub mod InversionLaws
 pub mod VisitLaws
 pub mod SurfaceLaws
+pub mod Examples
