@@ -1,5 +1,5 @@
 -- The cases that document 01 marks with a dot, as one list in its order, and the theorem that every row holds of the definitions.
--- A row that takes many steps is a lemma of its own, since a declaration may take only so many.
+-- A row that takes many steps is proved by itself, since a declaration may take only so many.
 use mathlib.Core.Path.{_≡_, refl, ap, _∙_}
 use mathlib.Core.Bool.{true, false}
 use mathlib.Core.List.{List, [], _∷_, _++_, map}
@@ -17,7 +17,7 @@ use Rattle.spline.specs.declared.parameter.KnotSide.the-variants.{Right}
 use Rattle.spline.specs.Weights.{weighed, refusalOf}
 use Rattle.spline.specs.Knots.{Axis, axis}
 use Rattle.basis.specs.Basis.{Sample, sample, three, basisAt}
-use Rattle.price.specs.Price.{Priced, answered, after, mapped, _then_}
+use Rattle.price.specs.Price.{Priced, refused, answered, price, after, mapped, _then_, paid}
 use Rattle.surface.specs.declared.Counts.{Counts}
 use Rattle.surface.specs.Surface.{Surface, surface, axisU, axisV, scaleOf, refusalOfSurface, wrapped, evaluateBy}
 use Rattle.surface.specs.Intervals.{domainOf}
@@ -37,7 +37,7 @@ use Rattle.chart.specs.declared.Period.the-variants.{Free}
 use Rattle.chart.specs.declared.Terms.{Terms}
 use Rattle.chart.specs.declared.Placing.{Placing}
 use Rattle.chart.specs.declared.Placing.the-variants as Placing
-use Rattle.chart.specs.Chart.{soundSearch, nearestTo, turned, placingOf}
+use Rattle.chart.specs.Chart.{soundSearch, nearestTo, placingOf}
 use Rattle.chart.specs.Chart as Chart
 use Rattle.inverter.specs.declared.Components.{Components}
 use Rattle.inverter.specs.declared.Components.the-variants.{Along, Refusal}
@@ -135,8 +135,13 @@ quadratic = axis 2 3 (0· ∷ 0· ∷ 0· ∷ 1· ∷ 1· ∷ 1· ∷ [])
 abbrev at : Float → Float → Float → Vector3
 at x y z = record { x = x; y = y; z = z }
 
+-- the Square's mark
 abbrev mark : Vector3
 mark = at ¼· ½· ¾·
+
+-- the Dot's mark
+abbrev dot-mark : Vector3
+dot-mark = at 3· 4· 0·
 
 -- without periods
 abbrev terms : Hint → Float → Terms
@@ -145,6 +150,10 @@ terms hint tolerance = record { hint = hint; tolerance = tolerance; u = Free; v 
 abbrev end : Float → Float → Float → End
 end u v distance = record { u = u; v = v; distance = distance }
 
+-- the Square's point nearest to the mark
+abbrev foot : End
+foot = end ¼· ½· ¾·
+
 abbrev collapsed : ℕ → Float → Vector3 → Float → Edge
 collapsed k value point side = Collapsed (record { k = k; value = value; point = point; side = side })
 
@@ -152,23 +161,16 @@ collapsed k value point side = Collapsed (record { k = k; value = value; point =
 abbrev grid : Surface → Vector3 → Priced (List Start)
 grid s m = survey m (evaluateBy s (scaleOf s)) (valuesOf (axisU s)) (valuesOf (axisV s))
 
--- the eighths from 0 to 1
-abbrev eighths : List Float
-eighths = 0· ∷ ⅛· ∷ ¼· ∷ ⅜· ∷ ½· ∷ ⅝· ∷ ¾· ∷ ⅞· ∷ 1· ∷ []
+-- ---- what a row says
 
--- each of them with each, at distance 5
-abbrev points : List Float → List Float → List Start
-points [] vs = []
-points (x ∷ xs) vs = map (startAt 5· x) vs ++ points xs vs
-
--- ---- the rows
-
+-- input, and what is answered; a number is that of the refusal, 0 for none
 pub data Case : Type 0 where
   weights : List Float → Weighed → ℕ → Case
   basis : Axis → Float → Sample → Case
   wraps : Float → Float → Case
   distances : Surface → Vector3 → Priced (List Float) → Case
   starts : Surface → Vector3 → Priced (List Start) → Case
+  -- a surface, a mark, a hint, a tolerance and a budget
   inverts : Surface → Vector3 → Hint → Float → ℕ → Placing → ℕ → Case
   derives : Surface → Float → Float → Vector3 → Components → ℕ → Case
   collapses : Surface → Float → Edges → Case
@@ -180,132 +182,81 @@ Holds (weights ws r number) = (weighed ws ≡ r) × (refusalOf r ≡ number)
 Holds (basis a u r) = basisAt a Right u ≡ r
 -- periodic, the domain 0 to 1
 Holds (wraps t r) = wrapped true 0· 1· t ≡ r
+-- of all points of the grid, in its order
 Holds (distances s m r) = mapped (map (λ (p : Start). p .distance)) (grid s m) ≡ r
 Holds (starts s m r) = mapped startsOf (grid s m) ≡ r
--- without periods, with a budget of which nothing is left
+-- with no periods; nothing is left of the budget
 Holds (inverts s m h t budget r number) = (placed s m (terms h t) budget ≡ r) × (Chart.numberOf r ≡ number) × (Chart.leftOf budget r ≡ 0)
--- a budget of 1, of which nothing is left
+-- with a budget of 1, of which nothing is left
 Holds (derives s u v d r number) = (derived s u v d 1 ≡ r) × (numberOf r ≡ number) × (leftOf 1 r ≡ 0)
 Holds (collapses s t r) = singular s t ≡ r
 -- the period 1
 Holds (nearest value hint r) = nearestTo value hint 1· ≡ r
 Holds (roots x r) = root x ≡ r
 
-abbrev pub All : List Case → Type 0
-All [] = Unit {0}
-All (c ∷ cs) = Holds c × All cs
+-- every row of a list
+pub data All : List Case → Type 0 where
+  none : All []
+  first : {c : Case} {cs : List Case} → Holds c → All cs → All (c ∷ cs)
 
--- ---- an inversion by its starts: the grid is evaluated in one lemma, and not again
-
-module _ (s : Surface) (m : Vector3) (t : Float) (ss : List Start) (n : ℕ) (h : mapped startsOf (grid s m) ≡ answered ss n) where
-  abbrev onward : Best → ℕ → Priced End
-  onward best k = answered ss n then searched (domainOf s) m (evaluateBy s (scaleOf s)) best k
-
-  free : inversionBy s (scaleOf s) m Nothing t ≡ onward Best.Nothing 0
-  unfolding inversionBy plainSteps explored
-  free = rw h
-
-  beyond : (u v : Float) (e : End) (k : ℕ) → run (domainOf s) m (evaluateBy s (scaleOf s)) u v ≡ answered e k → le (e .distance) t ≡ false → inversionBy s (scaleOf s) m (At u v) t ≡ after k (onward (Best.At e) k)
-  unfolding inversionBy plainSteps hinted unlessClose explored
-  beyond u v e k r f = rw (r, f, h)
-
-module _ (s : Surface) (m : Vector3) (hint : Hint) (t : Float) (e : End) (n : ℕ) (ok : refusalOfSurface s ≡ 0) (sound : soundSearch m (terms hint t) ≡ true) (steps : inversionBy s (scaleOf s) m hint t ≡ answered e n) where
-  enough : placed s m (terms hint t) n ≡ Placing.Pair (turned (terms hint t) e) n
-  unfolding placingOf outcomeOf
-  enough = rw steps at (answer-enough (terms hint t) s ok m sound n (rw steps (omega arith)))
-
-  short : (budget : ℕ) → budget < n → placed s m (terms hint t) budget ≡ Placing.Refusal 8 budget
-  short budget l = answer-short (terms hint t) s ok m sound budget (rw steps l)
+infixr 5 _and_
+_and_ : {c : Case} {cs : List Case} → Holds c → All cs → All (c ∷ cs)
+h and hs = first h hs
 
 -- ---- the rows that take many steps
+
+-- the root of n / 64
+abbrev root64 : ℕ → Float
+root64 n = root (fin false n (negsuc 5))
 
 abbrev pub square-starts : Case
 square-starts =
     starts square mark (answered (
     startAt ¾· ¼· ½·
-    ∷ startAt (root (fin false 37 (negsuc 5))) ⅛· ½·
-    ∷ startAt (root (fin false 38 (negsuc 5))) ⅛· ⅜·
-    ∷ startAt (root (fin false 40 (negsuc 5))) 0· ½·
-    ∷ startAt (root (fin false 41 (negsuc 5))) 0· ⅜·
-    ∷ startAt (root (fin false 44 (negsuc 5))) 0· ¼·
+    ∷ startAt (root64 37) ⅛· ½·
+    ∷ startAt (root64 38) ⅛· ⅜·
+    ∷ startAt (root64 40) 0· ½·
+    ∷ startAt (root64 41) 0· ⅜·
+    ∷ startAt (root64 44) 0· ¼·
     ∷ []) 81)
 
-square-starts-hold : Holds square-starts
-unfolding compute
-square-starts-hold = refl
-
-square-free-steps : inversionBy square (scaleOf square) mark Nothing ½· ≡ answered (end ¼· ½· ¾·) 92
-unfolding compute
-square-free-steps = free square mark ½· _ 81 square-starts-hold ∙ refl
-
 abbrev pub square-free : Case
-square-free = inverts square mark Nothing ½· 92 (Placing.Pair (end ¼· ½· ¾·) 92) 0
-
-square-free-holds : Holds square-free
-unfolding compute
-square-free-holds = (enough square mark Nothing ½· _ 92 refl refl square-free-steps, refl, refl)
+square-free = inverts square mark Nothing ½· 92 (Placing.Pair foot 92) 0
 
 abbrev pub square-short : Case
 square-short = inverts square mark Nothing ½· 91 (Placing.Refusal 8 91) 8
 
-square-short-holds : Holds square-short
-unfolding compute
-square-short-holds = (short square mark Nothing ½· _ 92 refl refl square-free-steps 91 (omega arith), refl, refl)
-
 abbrev pub square-far : Case
-square-far = inverts square mark (At ¼· ½·) ½· 94 (Placing.Pair (end ¼· ½· ¾·) 94) 0
-
-square-far-holds : Holds square-far
-unfolding compute
-square-far-holds = (enough square mark (At ¼· ½·) ½· _ 94 refl refl (beyond square mark ½· _ 81 square-starts-hold ¼· ½· (end ¼· ½· ¾·) 1 refl refl ∙ refl), refl, refl)
-
--- the points of the Dot's grid
-dot-points : grid dot (at 3· 4· 0·) ≡ answered (points eighths eighths) 81
-unfolding compute
-dot-points = refl
+square-far = inverts square mark (At ¼· ½·) ½· 94 (Placing.Pair foot 94) 0
 
 abbrev pub dot-distances : Case
-dot-distances = distances dot (at 3· 4· 0·) (answered (replicate 81 5·) 81)
-
-dot-distances-hold : Holds dot-distances
-unfolding mapped
-dot-distances-hold = rw dot-points
+dot-distances = distances dot dot-mark (answered (replicate 81 5·) 81)
 
 abbrev pub dot-starts : Case
-dot-starts = starts dot (at 3· 4· 0·) (answered (startAt 5· 0· 0· ∷ []) 81)
-
-dot-starts-hold : Holds dot-starts
-unfolding mapped Shortlist.compute
-dot-starts-hold = ap (mapped startsOf) dot-points ∙ refl
+dot-starts = starts dot dot-mark (answered (startAt 5· 0· 0· ∷ []) 81)
 
 abbrev pub dot-free : Case
-dot-free = inverts dot (at 3· 4· 0·) Nothing 0· 83 (Placing.Pair (end inside inside 5·) 83) 0
-
-dot-free-holds : Holds dot-free
-unfolding compute
-dot-free-holds = (enough dot (at 3· 4· 0·) Nothing 0· _ 83 refl refl (free dot (at 3· 4· 0·) 0· _ 81 dot-starts-hold ∙ refl), refl, refl)
+dot-free = inverts dot dot-mark Nothing 0· 83 (Placing.Pair (end inside inside 5·) 83) 0
 
 abbrev pub square-edges : Case
 square-edges = collapses square ½· (Found (collapsed 0 0· (at ½· 0· 0·) 1·) (collapsed 0 1· (at ½· 1· 0·) (neg 1·)) (collapsed 1 0· (at 0· ½· 0·) 1·) (collapsed 1 1· (at 1· ½· 0·) (neg 1·)))
 
-square-edges-hold : Holds square-edges
-unfolding Edges.compute
-square-edges-hold = refl
-
 abbrev pub square-open : Case
 square-open = collapses square under-half (Found Open Open Open Open)
 
-square-open-holds : Holds square-open
-unfolding Edges.compute
-square-open-holds = refl
+abbrev pub stretched-refused : Case
+stretched-refused = inverts stretched mark Nothing ½· 3 (Placing.Refusal 9 3) 9
 
--- ---- the table
+abbrev pub stretched-short : Case
+stretched-short = inverts stretched mark Nothing ½· 2 (Placing.Refusal 8 2) 8
+
+-- ---- all rows, in document 01's order, by its words
 
 abbrev pub rows : List Case
 rows =
     -- "Weights 2^-1074 and 1: accepted."
     weights (least ∷ 1· ∷ []) (Scale 1·) 0
-    -- "2^-1074 and 2: refusal 4"
+    -- "2^-1074 and 2: refusal 4, the quotient rounds to 0"
     ∷ weights (least ∷ 2· ∷ []) Refused 4
     -- "Degree 2, knots 0 0 0 1 1 1, u = 0.5: values 0.25 0.5 0.25, first -1 0 1, second 2 -4 2"
     ∷ basis quadratic ½· (sample 0 (three ¼· (neg 1·) 2· ∷ three ½· 0· (neg 4·) ∷ three ¼· 1· 2· ∷ []))
@@ -319,11 +270,11 @@ rows =
     -- "Budget 91: refusal 8, 0 left."
     ∷ square-short
     -- "With hint (0.25, 0.5): tolerance 0.75, price 1"
-    ∷ inverts square mark (At ¼· ½·) ¾· 1 (Placing.Pair (end ¼· ½· ¾·) 1) 0
+    ∷ inverts square mark (At ¼· ½·) ¾· 1 (Placing.Pair foot 1) 0
     -- "tolerance 0.5, price 94"
     ∷ square-far
     -- "Hint (0.5, 0.5), tolerance 0.75: price 2"
-    ∷ inverts square mark (At ½· ½·) ¾· 2 (Placing.Pair (end ¼· ½· ¾·) 2) 0
+    ∷ inverts square mark (At ½· ½·) ¾· 2 (Placing.Pair foot 2) 0
     -- "Dot, mark (3, 4, 0), no hint: all distances 5, one start, pair (0.0000005, 0.0000005), price 83"
     ∷ dot-distances
     ∷ dot-starts
@@ -347,94 +298,140 @@ rows =
     ∷ roots 0· 0·
     ∷ roots (inf false) (inf false)
     -- "Knots 0 0 1.7e308 1.7e308 in v, else the square, no hint: the third v overflows, refusal 9, price 3."
-    ∷ inverts stretched mark Nothing ½· 3 (Placing.Refusal 9 3) 9
-    ∷ inverts stretched mark Nothing ½· 2 (Placing.Refusal 8 2) 8
+    ∷ stretched-refused
+    ∷ stretched-short
     ∷ []
+
+-- ---- an inversion by its starts, so that a grid is evaluated in one lemma and not again
+
+module _ (s : Surface) (m : Vector3) (t : Float) (ss : List Start) (n : ℕ) (h : mapped startsOf (grid s m) ≡ answered ss n) where
+  abbrev onward : Best → ℕ → Priced End
+  onward best k = answered ss n then searched (domainOf s) m (evaluateBy s (scaleOf s)) best k
+
+  without-hint : inversionBy s (scaleOf s) m Nothing t ≡ onward Best.Nothing 0
+  unfolding inversionBy plainSteps explored
+  without-hint = rw h
+
+  -- the hint's run ends further than the tolerance
+  with-hint : (u v : Float) (e : End) (k : ℕ) → run (domainOf s) m (evaluateBy s (scaleOf s)) u v ≡ answered e k → le (e .distance) t ≡ false → inversionBy s (scaleOf s) m (At u v) t ≡ after k (onward (Best.At e) k)
+  unfolding inversionBy plainSteps hinted unlessClose explored
+  with-hint u v e k r f = rw (r, f, h)
+
+-- ---- the call by its plain steps
+
+module _ (s : Surface) (m : Vector3) (hint : Hint) (t : Float) (p : Priced End) (ok : refusalOfSurface s ≡ 0) (sound : soundSearch m (terms hint t) ≡ true) (steps : inversionBy s (scaleOf s) m hint t ≡ p) where
+  enough : placed s m (terms hint t) (price p) ≡ placingOf 0 (terms hint t) (outcomeOf (paid p))
+  enough = rw steps at (answer-enough (terms hint t) s ok m sound (price p) (rw steps (omega arith)))
+
+  short : (budget : ℕ) → budget < price p → placed s m (terms hint t) budget ≡ Placing.Refusal 8 budget
+  short budget l = answer-short (terms hint t) s ok m sound budget (rw steps l)
+
+-- ---- the rows that take many steps, proved
+
+square-starts-hold : Holds square-starts
+unfolding compute
+square-starts-hold = refl
+
+square-steps : inversionBy square (scaleOf square) mark Nothing ½· ≡ answered foot 92
+unfolding compute
+square-steps = without-hint square mark ½· _ 81 square-starts-hold ∙ refl
+
+square-free-holds : Holds square-free
+unfolding compute
+square-free-holds = (enough square mark Nothing ½· (answered foot 92) refl refl square-steps, refl, refl)
+
+square-short-holds : Holds square-short
+unfolding compute
+square-short-holds = (short square mark Nothing ½· (answered foot 92) refl refl square-steps 91 (omega arith), refl, refl)
+
+square-far-steps : inversionBy square (scaleOf square) mark (At ¼· ½·) ½· ≡ answered foot 94
+unfolding compute
+square-far-steps = with-hint square mark ½· _ 81 square-starts-hold ¼· ½· foot 1 refl refl ∙ refl
+
+square-far-holds : Holds square-far
+unfolding compute
+square-far-holds = (enough square mark (At ¼· ½·) ½· (answered foot 94) refl refl square-far-steps, refl, refl)
+
+abbrev eighths : List Float
+eighths = 0· ∷ ⅛· ∷ ¼· ∷ ⅜· ∷ ½· ∷ ⅝· ∷ ¾· ∷ ⅞· ∷ 1· ∷ []
+
+-- each u with each v, at distance 5
+abbrev points : List Float → List Float → List Start
+points [] vs = []
+points (x ∷ xs) vs = map (startAt 5· x) vs ++ points xs vs
+
+dot-points : grid dot dot-mark ≡ answered (points eighths eighths) 81
+unfolding compute
+dot-points = refl
+
+dot-distances-hold : Holds dot-distances
+unfolding mapped
+dot-distances-hold = rw dot-points
+
+dot-starts-hold : Holds dot-starts
+unfolding mapped Shortlist.compute
+dot-starts-hold = ap (mapped startsOf) dot-points ∙ refl
+
+dot-steps : inversionBy dot (scaleOf dot) dot-mark Nothing 0· ≡ answered (end inside inside 5·) 83
+unfolding compute
+dot-steps = without-hint dot dot-mark 0· _ 81 dot-starts-hold ∙ refl
+
+dot-free-holds : Holds dot-free
+unfolding compute
+dot-free-holds = (enough dot dot-mark Nothing 0· (answered (end inside inside 5·) 83) refl refl dot-steps, refl, refl)
+
+square-edges-hold : Holds square-edges
+unfolding Edges.compute
+square-edges-hold = refl
+
+square-open-holds : Holds square-open
+unfolding Edges.compute
+square-open-holds = refl
+
+stretched-steps : inversionBy stretched (scaleOf stretched) mark Nothing ½· ≡ refused 3
+unfolding compute
+stretched-steps = refl
+
+stretched-refused-holds : Holds stretched-refused
+unfolding compute
+stretched-refused-holds = (enough stretched mark Nothing ½· (refused 3) refl refl stretched-steps, refl, refl)
+
+stretched-short-holds : Holds stretched-short
+unfolding compute
+stretched-short-holds = (short stretched mark Nothing ½· (refused 3) refl refl stretched-steps 2 (omega arith), refl, refl)
+
+-- ---- the table
 
 pub table : All rows
 unfolding compute
-table = (
-  (refl, refl),
-  (
-    (refl, refl),
-    (
-      refl,
-      (
-        refl,
-        (
-          refl,
-          (
-            refl,
-            (
-              square-starts-hold,
-              (
-                square-free-holds,
-                (
-                  square-short-holds,
-                  (
-                    (refl, refl, refl),
-                    (
-                      square-far-holds,
-                      (
-                        (refl, refl, refl),
-                        (
-                          dot-distances-hold,
-                          (
-                            dot-starts-hold,
-                            (
-                              dot-free-holds,
-                              (
-                                (refl, refl, refl),
-                                (
-                                  (refl, refl, refl),
-                                  (
-                                    square-edges-hold,
-                                    (
-                                      square-open-holds,
-                                      (
-                                        refl,
-                                        (
-                                          refl,
-                                          (
-                                            refl,
-                                            (
-                                              refl,
-                                              (
-                                                refl,
-                                                (
-                                                  refl,
-                                                  (
-                                                    refl,
-                                                    (
-                                                      refl,
-                                                      (
-                                                        (refl, refl, refl),
-                                                        ((refl, refl, refl), tt),
-                                                      ),
-                                                    ),
-                                                  ),
-                                                ),
-                                              ),
-                                            ),
-                                          ),
-                                        ),
-                                      ),
-                                    ),
-                                  ),
-                                ),
-                              ),
-                            ),
-                          ),
-                        ),
-                      ),
-                    ),
-                  ),
-                ),
-              ),
-            ),
-          ),
-        ),
-      ),
-    ),
-  ),
-)
+table =
+    (refl, refl)
+    and (refl, refl)
+    and refl
+    and refl
+    and refl
+    and refl
+    and square-starts-hold
+    and square-free-holds
+    and square-short-holds
+    and (refl, refl, refl)
+    and square-far-holds
+    and (refl, refl, refl)
+    and dot-distances-hold
+    and dot-starts-hold
+    and dot-free-holds
+    and (refl, refl, refl)
+    and (refl, refl, refl)
+    and square-edges-hold
+    and square-open-holds
+    and refl
+    and refl
+    and refl
+    and refl
+    and refl
+    and refl
+    and refl
+    and refl
+    and stretched-refused-holds
+    and stretched-short-holds
+    and none
