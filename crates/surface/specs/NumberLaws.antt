@@ -1,18 +1,20 @@
 -- Which number `check` and `evaluate` answer: that of the first line of 01's table whose cause holds, and 0 where none does. Assumes nothing.
-use mathlib.Core.Path.{_≡_, refl, sym, _∙_, subst}
-use mathlib.Core.Bool.{Bool, true, false, not, cond, _&&_, _||_, true≢false, false≢true}
-use mathlib.Core.List.{List}
+use mathlib.Core.Path.{_≡_, refl, sym, ap, _∙_, subst}
+use mathlib.Core.Bool.{Bool, true, false, not, cond, _&&_, _||_, or-assoc, true≢false, false≢true}
+use mathlib.Core.List.{List, [], _∷_}
 use mathlib.Core.Logic.{_↔_, _⊎_, inl, inr, ⊎-elim}
 use Prim.Native.Nat.{ℕ, zero, suc, _<_}
 use native.Mathlib.Omega.{arith}
 use lib.Dec.{ltb, eqb}
-use lib.Ieee.{Float}
+use lib.ListN.{length}
+use lib.Ieee.{Float, eq}
 use borrow.Author.Tests.{ltb-true, ltb-false, eqb-true, eqb-false, not-true, not-false}
-use Rattle.spline.specs.declared.weights.Weighed.{Weighed}
+use Rattle.float64.specs.Operators.{_⊘_, 0·}
 use Rattle.spline.specs.declared.weights.Weighed.the-variants as Weighed
-use Rattle.spline.specs.Weights.{weighed, refusalOf}
-use Rattle.spline.specs.Knots.{Axis, allFinite, acceptedKnots, refusalOfKnots}
-use Rattle.spline.specs.Each.{each-at}
+use Rattle.spline.specs.Weights.{isEmpty, sound, largest, vanishing, weighed, refusalOf}
+use Rattle.spline.specs.WeightLaws.{sound-each}
+use Rattle.spline.specs.Knots.{Axis, acceptedKnots, refusalOfKnots}
+use Rattle.spline.specs.Each.{Each, each-at}
 use Rattle.patch.specs.declared.Jet.{Jet}
 use Rattle.patch.specs.declared.Evaluated.{Evaluated}
 use Rattle.patch.specs.declared.Evaluated.the-variants as Eval
@@ -20,8 +22,8 @@ use Rattle.patch.specs.Laws.{FiniteJet}
 use Rattle.surface.specs.declared.Checked.the-variants as Check
 use Rattle.surface.specs.declared.Evaluation.the-variants.{Found}
 use Rattle.surface.specs.Surface.{Surface, axisU, axisV, orElse, when, tooLarge, miscounted, refusalOfSurface, scaleOf, judged, checked, evaluateBy, orNine, evaluatedBy, evaluated, numberOfChecked, numberOf}
-use Rattle.surface.specs.Refusals.{Line, this, next, None, TooLarge, Miscounted, NotFinite, KnotLines, SurfaceLines}
-use Rattle.surface.specs.SurfaceLaws.{finite-each, some-not-finite}
+use Rattle.surface.specs.Refusals.{Line, this, next, None, TooLarge, Miscounted, Some, Unweighed, KnotLines, SurfaceLines}
+use Rattle.surface.specs.SurfaceLaws.{finite-each, some-fails}
 use Rattle.surface.specs.EvaluateLaws.{evaluate-finite}
 
 -- ---- lines answer one number
@@ -72,8 +74,27 @@ wrong-counts : (s : Surface) → Decides (miscounted s) (Miscounted s)
 unfolding miscounted
 wrong-counts s = rw not-both (either _ _ (unequal _ _) (unequal _ _))
 
-not-finite : (cs : List Float) → Decides (not (allFinite cs)) (NotFinite cs)
-not-finite cs = (λ e. some-not-finite cs (not-true _ e), λ e n. true≢false (sym (each-at finite-each cs (n .0) (not-false _ e) (n .1)) ∙ n .2))
+-- a test of each number that one of them fails
+some-failing : {one : Float → Bool} {all : List Float → Bool} → Each (λ x xs. one x) all → (xs : List Float) → Decides (not (all xs)) (Some xs (λ x. one x ≡ false))
+some-failing each xs = (λ e. some-fails each xs (not-true _ e), λ e n. true≢false (sym (each-at each xs (n .0) (not-false _ e) (n .1)) ∙ n .2))
+
+empty : (ws : List Float) → Decides (isEmpty ws) (length ws ≡ 0)
+unfolding isEmpty
+empty [] = (λ e. refl, λ e. absurd (true≢false e))
+empty (w ∷ ws) = (λ e. absurd (false≢true e), λ e h. omega arith)
+
+not-either : (b c : Bool) → not (b || c) ≡ (not b && not c)
+not-either true c = refl
+not-either false c = refl
+
+vanishes : (m : Float) (ws : List Float) → Decides (vanishing m ws) (Some ws (λ w. eq (w ⊘ m) 0· ≡ true))
+unfolding vanishing
+vanishes m ws =
+    let d = some-failing {one = λ w. not (eq (w ⊘ m) 0·)} {all = λ ws. not (vanishing m ws)} (record { none = refl; more = λ w ws. not-either (eq (w ⊘ m) 0·) (vanishing m ws) }) ws in
+    (λ e. let n = d .0 (ap (λ b. not (not b)) e) in (n .0, n .1, not-false _ (n .2)), λ e n. d .1 (ap (λ b. not (not b)) e) (n .0, n .1, ap not (n .2)))
+
+unweighed : (ws : List Float) → Decides (isEmpty ws || not (sound ws) || vanishing (largest 0· ws) ws) (Unweighed ws)
+unweighed ws = rw or-assoc (either _ _ (empty ws) (either _ _ (some-failing sound-each ws) (vanishes (largest 0· ws) ws)))
 
 module _ (later : ℕ → Type 0) (n : ℕ) (l : later n) where
   tested : {cause : Type 0} (k : ℕ) (b : Bool) → Decides b cause → Line cause (suc k) later (orElse (when b (suc k)) n)
@@ -81,10 +102,13 @@ module _ (later : ℕ → Type 0) (n : ℕ) (l : later n) where
   tested k true d = this (d .0 refl)
   tested k false d = next (d .1 refl) l
 
-  weights-tested : (w : Weighed) → Line (w ≡ Weighed.Refused) 4 later (orElse (refusalOf w) n)
-  unfolding orElse refusalOf
-  weights-tested Weighed.Refused = this refl
-  weights-tested (Weighed.Scale m) = next (λ e. let z : _≡_ {A = ℕ} 0 1 = cc in omega arith) l
+  weights-tested : (ws : List Float) → Line (Unweighed ws) 4 later (orElse (refusalOf (weighed ws)) n)
+  unfolding orElse refusalOf weighed
+  weights-tested ws = by _ (unweighed ws)
+    where
+      by : (b : Bool) → Decides b (Unweighed ws) → Line (Unweighed ws) 4 later (orElse (refusalOf (cond b Weighed.Refused (Weighed.Scale (largest 0· ws)))) n)
+      by true d = this (d .0 refl)
+      by false d = next (d .1 refl) l
 
   knots-tested : (a : Axis) → KnotLines a later (orElse (refusalOfKnots a) n)
   unfolding orElse refusalOfKnots
@@ -101,8 +125,8 @@ module _ (s : Surface) (later : ℕ → Type 0) where
   surface-tested n l =
       let v = knots-tested later n l (axisV s) in
       let u = knots-tested _ _ v (axisU s) in
-      let four = weights-tested _ _ u (weighed (s .weights)) in
-      let three = tested _ _ four 2 _ (not-finite (s .controls)) in
+      let four = weights-tested _ _ u (s .weights) in
+      let three = tested _ _ four 2 _ (some-failing finite-each (s .controls)) in
       let two = tested _ _ three 1 _ (wrong-counts s) in
       simp or-else-assoc (tested _ _ two 0 _ (large s))
 

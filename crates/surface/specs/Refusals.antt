@@ -1,14 +1,14 @@
 -- 01's table of refusals, of the lines that a surface's checks answer, in its order. Definitions only.
 use mathlib.Core.Path.{_≡_}
-use mathlib.Core.Bool.{false}
+use mathlib.Core.Bool.{true, false, _&&_}
 use mathlib.Core.Logic.{_⊎_}
 use mathlib.Core.List.{List}
 use Prim.Native.Nat.{ℕ, _+_, _*_, _<_}
 use lib.ListN.{length, getD}
-use lib.Ieee.{Float, nan}
+use lib.Ieee.{Float, nan, lt, eq}
+use Rattle.float64.specs.Operators.{_⊘_, 0·}
 use Rattle.float64.specs.Functions.{isFinite}
-use Rattle.spline.specs.declared.weights.Weighed.the-variants as Weighed
-use Rattle.spline.specs.Weights.{weighed}
+use Rattle.spline.specs.Weights.{largest}
 use Rattle.spline.specs.Knots.{Axis, acceptedKnots}
 use Rattle.surface.specs.Surface.{Surface, axisU, axisV, total}
 
@@ -28,9 +28,13 @@ TooLarge s = (100000 < total s) ⊎ (100034 < length (s .knotsU) + length (s .kn
 abbrev pub Miscounted : Surface → Type 0
 Miscounted s = (length (s .controls) ≡ 3 * total s → ⊥) ⊎ (length (s .weights) ≡ total s → ⊥)
 
--- one of them is not
-abbrev pub NotFinite : List Float → Type 0
-NotFinite xs = (i : ℕ) × (i < length xs) × (isFinite (getD xs i nan) ≡ false)
+-- one of a list
+abbrev pub Some : List Float → (Float → Type 0) → Type 0
+Some xs P = (i : ℕ) × (i < length xs) × P (getD xs i nan)
+
+-- "Weight not finite, not above 0, or 0 after division by the largest; no weights"
+abbrev pub Unweighed : List Float → Type 0
+Unweighed ws = (length ws ≡ 0) ⊎ Some ws (λ w. (isFinite w && lt 0· w) ≡ false) ⊎ Some ws (λ w. eq (w ⊘ largest 0· ws) 0· ≡ true)
 
 -- "5 and 6" for an axis
 abbrev pub KnotLines : Axis → (ℕ → Type 0) → ℕ → Type 0
@@ -41,6 +45,6 @@ abbrev pub SurfaceLines : Surface → (ℕ → Type 0) → ℕ → Type 0
 SurfaceLines s later =
     Line (TooLarge s) 1
     (Line (Miscounted s) 2
-    (Line (NotFinite (s .controls)) 3
-    (Line (weighed (s .weights) ≡ Weighed.Refused) 4
+    (Line (Some (s .controls) (λ x. isFinite x ≡ false)) 3
+    (Line (Unweighed (s .weights)) 4
     (KnotLines (axisU s) (KnotLines (axisV s) later)))))

@@ -5,7 +5,7 @@ use mathlib.Core.List.{List, [], _∷_}
 use Prim.Native.Nat.{ℕ, zero, suc, _+_, _*_, _≤_, _<_}
 use native.Mathlib.Omega.{arith}
 use lib.Dec.{eqb}
-use lib.ListN.{length, getD}
+use lib.ListN.{length, drop, getD}
 use lib.Ieee.{Float, nan, le}
 use borrow.Author.Tests.{ltb-false, eqb-true, not-false, le-ltb, eq-eqb}
 use Rattle.float64.specs.Operators.{_⊕_, _⊖_}
@@ -19,7 +19,6 @@ use Rattle.spline.specs.Knots.{allFinite, refusalOfKnots}
 use Rattle.spline.specs.Each.{Each, each-at}
 use Rattle.surface.specs.declared.Checked.the-variants as Check
 use Rattle.surface.specs.Surface.{Surface, axisU, axisV, total, orElse, when, tooLarge, miscounted, refusalOfSurface, scaleOf, judged, checked, wrapped}
-use Rattle.surface.specs.Refusals.{NotFinite}
 
 -- ---- the checks
 
@@ -27,21 +26,23 @@ pub finite-each : Each (λ x xs. isFinite x) allFinite
 unfolding allFinite
 finite-each = record { none = refl; more = λ x xs. refl }
 
-pub some-not-finite : (xs : List Float) → allFinite xs ≡ false → NotFinite xs
-unfolding allFinite
-some-not-finite [] h = absurd (true≢false h)
-some-not-finite (x ∷ xs) h = by (isFinite x) refl h (some-not-finite xs)
-  where
-    by : (b : Bool) → isFinite x ≡ b → (b && allFinite xs) ≡ false → (allFinite xs ≡ false → NotFinite xs) → NotFinite (x ∷ xs)
-    by false e h r = (0, omega arith, e)
-    by true e h r = let n = r h in (suc (n .0), omega arith, n .2)
+module _ {one : Float → List Float → Bool} {all : List Float → Bool} (each : Each one all) where
+  -- where not all pass there is one that does not
+  pub some-fails : (xs : List Float) → all xs ≡ false → (i : ℕ) × (i < length xs) × (one (getD xs i nan) (drop (suc i) xs) ≡ false)
+  some-fails [] h = absurd (true≢false (sym (each .none) ∙ h))
+  some-fails (x ∷ xs) h = by (one x xs) refl (sym (each .more x xs) ∙ h) (some-fails xs)
+    where
+      by : (b : Bool) → one x xs ≡ b → (b && all xs) ≡ false → (all xs ≡ false → (i : ℕ) × (i < length xs) × (one (getD xs i nan) (drop (suc i) xs) ≡ false))
+          → (i : ℕ) × (i < length (x ∷ xs)) × (one (getD (x ∷ xs) i nan) (drop (suc i) (x ∷ xs)) ≡ false)
+      by false e h r = (0, omega arith, e)
+      by true e h r = let n = r h in (suc (n .0), omega arith, n .2)
 
 all-finite : (xs : List Float) → ((i : ℕ) → i < length xs → isFinite (getD xs i nan) ≡ true) → allFinite xs ≡ true
 all-finite xs h = by (allFinite xs) refl
   where
     by : (b : Bool) → allFinite xs ≡ b → b ≡ true
     by true e = refl
-    by false e = let n = some-not-finite xs e in absurd (true≢false (sym (h (n .0) (n .1)) ∙ n .2))
+    by false e = let n = some-fails finite-each xs e in absurd (true≢false (sym (h (n .0) (n .1)) ∙ n .2))
 
 none-of : (m n : ℕ) → orElse m n ≡ 0 → (m ≡ 0) × (n ≡ 0)
 unfolding orElse
