@@ -30,7 +30,7 @@ returns-3 c =
     let m = t .before in
     let n = m .before .before in
     let a = n .before .before .args in
-    (bytes-left (a .bytes .now) (a .shape) (n .numbers-end .result) (n .numbers-end .ensures .0) (n .before .before .pre .0) (m .before .if1 .left) (m .is-mark .result) (m .is-mark .ensures) (not-false _ (t .if2 .left)) (c .if3 .taken), tt)
+    (bytes-left (a .bytes .now) (a .shape) (n .numbers-end .result) (n .numbers-end .ensures .0) (n .before .before .pre .0) (m .before .if1 .left) (m .is-mark .result) (m .is-mark .ensures) (not-false _ (t .if2 .left)) (λ z. omega arith), tt)
 
 returns-4 : tie.Need-returns-4
 unfolding told

@@ -1,5 +1,6 @@
 -- `job_format::layout_of` meets its contract: each test that fails is a piece that is malformed. Assumes nothing.
 use mathlib.Core.Path.{_∙_}
+use native.Mathlib.Omega.{arith}
 use borrow.Author.Tests.{not-true, not-false}
 use Rattle.job_format.specs.Offsets.{told}
 use Rattle.job_format.specs.FormatLaws.{too-long}
@@ -10,7 +11,7 @@ use Rattle.job_format.proofs.layout_of.Tie as tie
 
 returns : tie.Need-returns
 unfolding told
-returns c = (too-long (c .before .before .args .bytes .now) (c .if1 .taken), tt)
+returns c = (too-long (c .before .before .args .bytes .now) (omega arith), tt)
 
 returns-2 : tie.Need-returns-2
 unfolding told
@@ -29,7 +30,7 @@ returns-4 c =
     let t = c .before .before in
     let m = t .before in
     let s = m .before .before in
-    (wrong-flags (s .before .before .args .bytes .now) (s .if1 .left) (m .before .if2 .left) (m .is-mark .result) (m .is-mark .ensures) (not-false _ (t .if3 .left)) (c .if4 .taken), tt)
+    (wrong-flags (s .before .before .args .bytes .now) (s .if1 .left) (m .before .if2 .left) (m .is-mark .result) (m .is-mark .ensures) (not-false _ (t .if3 .left)) (omega arith), tt)
 
 returns-5 : tie.Need-returns-5
 returns-5 c =
