@@ -19,7 +19,7 @@ use Rattle.seeds.specs.Visits.{gridOf, pointsOf}
 use Rattle.inversion.specs.declared.Hint.{Hint}
 use Rattle.inversion.specs.declared.Hint.the-variants.{Nothing, At}
 
--- whether a run ends within the tolerance
+-- whether a run ends within the tolerance; a refused one has no end
 unfoldable pub isClose : Float → Priced End → Bool
 isClose tolerance (refused n) = false
 isClose tolerance (answered e n) = le (e .distance) tolerance

@@ -42,7 +42,7 @@ module _ (eval : Float → Float → Evaluated) where
   never-both : {p : Pair} → FoundAt p → RefusedAt p → {A : Type 0} → A
   never-both f r = let j = f .0 in let e = f .1 in absurd (let z : _≡_ {A = ℕ} 0 1 = cc in omega arith)
 
-  pub found-whole : (ps : List Pair) → AllFound ps → until eval ps ≡ ps
+  found-whole : (ps : List Pair) → AllFound ps → until eval ps ≡ ps
   unfolding until unlessRefused
   found-whole [] h = refl
   found-whole (p ∷ ps) h = rw (h .0 .1) (ap (λ qs. p ∷ qs) (found-whole ps (h .1)))
