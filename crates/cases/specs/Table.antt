@@ -32,7 +32,7 @@ use Rattle.inversion.specs.declared.Hint.{Hint}
 use Rattle.inversion.specs.declared.Hint.the-variants.{Nothing, At}
 use Rattle.inversion.specs.declared.Best.{Best}
 use Rattle.inversion.specs.declared.Best.the-variants as Best
-use Rattle.inversion.specs.Inversion.{searched, explored, unlessClose, hinted, plainSteps, inversionBy}
+use Rattle.inversion.specs.Inversion.{led, choose, runs, searched, explored, unlessClose, hinted, plainSteps, inversionBy}
 use Rattle.chart.specs.declared.Period.the-variants.{Free}
 use Rattle.chart.specs.declared.Terms.{Terms}
 use Rattle.chart.specs.declared.Placing.{Placing}
@@ -170,6 +170,7 @@ pub data Case : Type 0 where
   wraps : Float → Float → Case
   distances : Surface → Vector3 → Priced (List Float) → Case
   starts : Surface → Vector3 → Priced (List Start) → Case
+  runs-end : Surface → Vector3 → List Start → Priced (List End) → Case
   -- a surface, a mark, a hint, a tolerance and a budget
   inverts : Surface → Vector3 → Hint → Float → ℕ → Placing → ℕ → Case
   derives : Surface → Float → Float → Vector3 → Components → ℕ → Case
@@ -185,6 +186,7 @@ Holds (wraps t r) = wrapped true 0· 1· t ≡ r
 -- of all points of the grid, in its order
 Holds (distances s m r) = mapped (map (λ (p : Start). p .distance)) (grid s m) ≡ r
 Holds (starts s m r) = mapped startsOf (grid s m) ≡ r
+Holds (runs-end s m ss r) = runs (domainOf s) m (evaluateBy s (scaleOf s)) ss ≡ r
 -- with no periods; nothing is left of the budget
 Holds (inverts s m h t budget r number) = (placed s m (terms h t) budget ≡ r) × (Chart.numberOf r ≡ number) × (Chart.leftOf budget r ≡ 0)
 -- with a budget of 1, of which nothing is left
@@ -209,16 +211,21 @@ h and hs = first h hs
 abbrev root64 : ℕ → Float
 root64 n = root (fin false n (negsuc 5))
 
-abbrev pub square-starts : Case
-square-starts =
-    starts square mark (answered (
+abbrev six : List Start
+six =
     startAt ¾· ¼· ½·
     ∷ startAt (root64 37) ⅛· ½·
     ∷ startAt (root64 38) ⅛· ⅜·
     ∷ startAt (root64 40) 0· ½·
     ∷ startAt (root64 41) 0· ⅜·
     ∷ startAt (root64 44) 0· ¼·
-    ∷ []) 81)
+    ∷ []
+
+abbrev pub square-starts : Case
+square-starts = starts square mark (answered six 81)
+
+abbrev pub square-runs : Case
+square-runs = runs-end square mark six (answered (replicate 6 foot) 11)
 
 abbrev pub square-free : Case
 square-free = inverts square mark Nothing ½· 92 (Placing.Pair foot 92) 0
@@ -266,6 +273,7 @@ rows =
     ∷ wraps 1· 1·
     -- "Square, mark (0.25, 0.5, 0.75), no hint: pair (0.25, 0.5), price 92 (81 for the grid, 11 for six runs)"
     ∷ square-starts
+    ∷ square-runs
     ∷ square-free
     -- "Budget 91: refusal 8, 0 left."
     ∷ square-short
@@ -302,20 +310,20 @@ rows =
     ∷ stretched-short
     ∷ []
 
--- ---- an inversion by its starts, so that a grid is evaluated in one lemma and not again
+-- ---- an inversion by its starts and their runs, so that a grid is evaluated in one lemma and not again
 
-module _ (s : Surface) (m : Vector3) (t : Float) (ss : List Start) (n : ℕ) (h : mapped startsOf (grid s m) ≡ answered ss n) where
-  abbrev onward : Best → ℕ → Priced End
-  onward best k = answered ss n then searched (domainOf s) m (evaluateBy s (scaleOf s)) best k
+module _ (s : Surface) (m : Vector3) (t : Float) (ss : List Start) (n : ℕ) (es : List End) (j : ℕ) (h : Holds (starts s m (answered ss n))) (r : Holds (runs-end s m ss (answered es j))) where
+  abbrev chosen : Best → ℕ → Priced End
+  chosen best k = after n (after j (choose k (led best es)))
 
-  without-hint : inversionBy s (scaleOf s) m Nothing t ≡ onward Best.Nothing 0
-  unfolding inversionBy plainSteps explored
-  without-hint = rw h
+  without-hint : inversionBy s (scaleOf s) m Nothing t ≡ chosen Best.Nothing 0
+  unfolding inversionBy plainSteps explored searched _then_
+  without-hint = rw (h, r)
 
   -- the hint's run ends further than the tolerance
-  with-hint : (u v : Float) (e : End) (k : ℕ) → run (domainOf s) m (evaluateBy s (scaleOf s)) u v ≡ answered e k → le (e .distance) t ≡ false → inversionBy s (scaleOf s) m (At u v) t ≡ after k (onward (Best.At e) k)
-  unfolding inversionBy plainSteps hinted unlessClose explored
-  with-hint u v e k r f = rw (r, f, h)
+  with-hint : (u v : Float) (e : End) (k : ℕ) → run (domainOf s) m (evaluateBy s (scaleOf s)) u v ≡ answered e k → le (e .distance) t ≡ false → inversionBy s (scaleOf s) m (At u v) t ≡ after k (chosen (Best.At e) k)
+  unfolding inversionBy plainSteps hinted unlessClose explored searched _then_
+  with-hint u v e k i f = rw (i, f, h, r)
 
 -- ---- the call by its plain steps
 
@@ -332,9 +340,13 @@ square-starts-hold : Holds square-starts
 unfolding compute
 square-starts-hold = refl
 
+square-runs-hold : Holds square-runs
+unfolding compute
+square-runs-hold = refl
+
 square-steps : inversionBy square (scaleOf square) mark Nothing ½· ≡ answered foot 92
 unfolding compute
-square-steps = without-hint square mark ½· _ 81 square-starts-hold ∙ refl
+square-steps = without-hint square mark ½· six 81 _ 11 square-starts-hold square-runs-hold ∙ refl
 
 square-free-holds : Holds square-free
 unfolding compute
@@ -346,7 +358,7 @@ square-short-holds = (short square mark Nothing ½· (answered foot 92) refl ref
 
 square-far-steps : inversionBy square (scaleOf square) mark (At ¼· ½·) ½· ≡ answered foot 94
 unfolding compute
-square-far-steps = with-hint square mark ½· _ 81 square-starts-hold ¼· ½· foot 1 refl refl ∙ refl
+square-far-steps = with-hint square mark ½· six 81 _ 11 square-starts-hold square-runs-hold ¼· ½· foot 1 refl refl ∙ refl
 
 square-far-holds : Holds square-far
 unfolding compute
@@ -374,7 +386,7 @@ dot-starts-hold = ap (mapped startsOf) dot-points ∙ refl
 
 dot-steps : inversionBy dot (scaleOf dot) dot-mark Nothing 0· ≡ answered (end inside inside 5·) 83
 unfolding compute
-dot-steps = without-hint dot dot-mark 0· _ 81 dot-starts-hold ∙ refl
+dot-steps = without-hint dot dot-mark 0· _ 81 (end inside inside 5· ∷ []) 2 dot-starts-hold refl ∙ refl
 
 dot-free-holds : Holds dot-free
 unfolding compute
@@ -412,6 +424,7 @@ table =
     and refl
     and refl
     and square-starts-hold
+    and square-runs-hold
     and square-free-holds
     and square-short-holds
     and (refl, refl, refl)
