@@ -1,17 +1,27 @@
 -- Where a parameter that is brought into the domain of an axis lies, and when it is a NaN. Assumes nothing.
-use mathlib.Core.Path.{_≡_, refl, ap, _∙_}
-use mathlib.Core.Bool.{Bool, true, false, not, cond, _&&_, true≢false, false≢true, and-eq-true-iff}
-use lib.Dec.{T}
+use mathlib.Core.Path.{_≡_, refl, sym, ap, _∙_}
+use mathlib.Core.List.{List}
+use mathlib.Core.Bool.{Bool, true, false, not, cond, _&&_, _||_, true≢false, false≢true, and-eq-true-iff}
+use Prim.Native.Nat.{ℕ, _+_, _≤_}
+use native.Mathlib.Omega.{arith}
+use lib.Dec.{T, ltb, eqb}
+use lib.ListN.{length}
 use lib.Ieee.{Float, nan, inf, fin, binary64, add, lt, le, isNan, fits}
 use lib.Ieee.Fits.{sub-fits}
 use Rattle.float64.specs.Operators.{_⊕_, _⊖_}
 use Rattle.float64.specs.Functions.{isFinite, abs, clamp, remEuclid}
-use Rattle.float64.specs.Order.{finite→number, le-refl, le→number, le-not-lt, lt→le}
+use Rattle.float64.specs.Order.{finite→number, le-refl, le→number, le-not-lt, lt→le, le-trans}
 use Rattle.float64.specs.Nonneg.{finite-add-number}
 use Rattle.float64.specs.Differences.{apart, difference-above}
 use Rattle.float64.specs.Magnitude.{Positive, positive, is-positive}
 use Rattle.float64.specs.RemainderLaws.{rem-euclid-exact, rem-euclid-special}
+use Rattle.spline.specs.Knots.{Axis, knot, low, high, acceptedKnots, refusalOfKnots}
+use Rattle.spline.specs.KnotLaws.{countsFit, knotsFit, domainFits, accepted-parts, accepted}
+use Rattle.spline.specs.Each.{both}
+use Rattle.surface.specs.declared.Counts.{Counts}
 use Rattle.surface.specs.Surface.{wrapped}
+use Rattle.surface.specs.Lent.{axisOf}
+use Rattle.surface.specs.Intervals.{intervalOf, wrappedOn}
 use Rattle.surface.specs.SurfaceLaws.{wrap-inside, wrap-outside}
 
 -- ---- it lies in the domain or is a NaN
@@ -105,3 +115,42 @@ module _ (lo hi t : Float) (f : isFinite lo ≡ true) (g : isFinite hi ≡ true)
       by false true e i =
           let r = rem-finite (t ⊖ lo) (hi ⊖ lo) (sub-fits binary64 t lo) (sub-fits binary64 hi lo) i (is-positive _ k (difference-above lo hi F G f g w)) in
           rw (wrap-outside true lo hi t refl h e) (clamp-number _ lo hi (finite-add-number lo _ f r) (finite→number lo f) (finite→number hi g))
+
+-- ---- on an axis whose knots are accepted
+
+module _ (a : Axis) (ok : refusalOfKnots a ≡ 0) where
+  range-finite : isFinite (knot a (a .controls + a .degree) ⊖ knot a 0) ≡ true
+  unfolding refusalOfKnots domainFits
+  range-finite =
+      let fit = both (countsFit (a .degree) (a .controls) (length (a .knots)) && knotsFit (a .degree + 1) (a .knots)) _ (sym (accepted-parts a) ∙ passed (eqb (a .degree) 0 || ltb 16 (a .degree)) (acceptedKnots a) ok) in
+      both (lt (low a) (high a)) _ (fit .1) .1
+    where
+      passed : (d t : Bool) → _≡_ {A = ℕ} (cond d 5 (cond t 0 6)) 0 → t ≡ true
+      passed true t h = absurd (omega arith)
+      passed false true h = refl
+      passed false false h = absurd (omega arith)
+
+  -- the domain's width is at most the range of all knots
+  width-finite : isFinite (high a ⊖ low a) ≡ true
+  width-finite =
+      let A = accepted a ok in
+      let last = a .controls + a .degree in
+      let finite : (i : ℕ) → i ≤ last → isFinite (knot a i) ≡ true = λ i l. A .finite i (omega arith) in
+      let f = finite 0 (omega arith) in
+      let g = finite (a .degree) (omega arith) in
+      let h = finite (a .controls) (omega arith) in
+      let k = finite last (omega arith) in
+      let below-low = A .in-order 0 (a .degree) (omega arith) (omega arith) in
+      let wide = lt→le _ _ (A .wide) in
+      smaller-finite _ _ range-finite
+      (le-trans _ _ _ (apart (knot a 0) (low a) (high a) f g h below-low wide .1)
+      (apart (knot a 0) (high a) (knot a last) f h k (le-trans _ _ _ below-low wide) (A .in-order (a .controls) last (omega arith) (omega arith)) .0))
+
+-- with the flag, and knots that are doubles, the answer is a NaN exactly where t - lo overflows
+pub axis-wrap-nan : (n : Counts) (ks : List Float) (t : Float) → refusalOfKnots (axisOf n ks) ≡ 0 → n .periodic ≡ true
+    → T (fits binary64 (low (axisOf n ks))) → T (fits binary64 (high (axisOf n ks))) → isFinite t ≡ true
+    → isNan (wrappedOn (intervalOf n ks) t) ≡ not (isFinite (t ⊖ low (axisOf n ks)))
+axis-wrap-nan n ks t ok p F G f =
+    let a = axisOf n ks in
+    let A = accepted a ok in
+    rw p (wrap-nan (low a) (high a) t (A .finite _ (omega arith)) (A .finite _ (omega arith)) f F G (A .wide) (width-finite a ok))
