@@ -37,7 +37,7 @@ module _ (d : Domain) (mark : Vector3) (eval : Float → Float → Evaluated) wh
         let grid = gridOf us vs in
         grid ++ (visitsOf (startsOf (pointsOf mark eval grid)) ++ again)
 
-    -- "those of the hint's run, if any, twice, one for each grid point, and those of each start's run", where none is refused
+    -- where none is refused: "the evaluations of an accepted hint's run; else those of the hint's run, if any, twice, one for each grid point, and those of each start's run"
     unfoldable pub planned : Hint → Float → List Pair
     planned Nothing tolerance = search []
     planned (At u v) tolerance =

@@ -1,6 +1,7 @@
 -- Two runs, computed: on the unit square of a plane, and on one that is all one point.
 use mathlib.Core.Path.{_≡_, refl}
 use mathlib.Core.Bool.{true, false}
+use mathlib.Core.List.{[], _∷_}
 use lib.IntN.{pos}
 use lib.Ieee.{Float, fin}
 use Rattle.float64.specs.Operators.{_⊕_, _⊗_, 0·, ½·, 1·, 1e-6}
@@ -10,6 +11,7 @@ use Rattle.patch.specs.declared.Evaluated.the-variants.{Found}
 use Rattle.price.specs.Price.{answered}
 use Rattle.surface.specs.declared.Domain.{Domain}
 use Rattle.newton.specs.Run.{run, nudges}
+use Rattle.newton.specs.Visits.{visits}
 use Rattle.newton.specs.Compute.{compute}
 
 unit : Domain
@@ -34,6 +36,10 @@ dot u v = Found (record { point = at 0· 0·; u = at 0· 0·; v = at 0· 0· })
 steps : run unit (record { x = ¼·; y = ½·; z = ¾· }) square ½· ½· ≡ answered (record { u = ¼·; v = ½·; distance = ¾· }) 2
 unfolding compute unit at square ¼· ¾·
 steps = refl
+
+visited : visits unit (record { x = ¼·; y = ½·; z = ¾· }) square ½· ½· ≡ (½·, ½·) ∷ (¼·, ½·) ∷ []
+unfolding compute unit at square ¼· ¾·
+visited = refl
 
 -- (3, 4, 0), 5 from the origin
 mark : Vector3
