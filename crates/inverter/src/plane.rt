@@ -31,7 +31,7 @@ fn local(frame: Frame, mark: Vector3) -> Components
     Components::Along(dot(d, frame.x), dot(d, frame.y))
 }
 
-// The coordinates of a mark in a plane's frame, for one unit.
+// The coordinates of a mark in a plane's frame, for one unit. Where a number of the answer is a NaN, its payload is free; nothing else is.
 pub fn invert_plane(frame: Frame, mark: Vector3, budget: u64) -> Components
     ensures { λ r. ⌜ r ≡ placedOn frame mark budget ⌝ }
 {

@@ -60,7 +60,7 @@ fn moved_at(
     moved(d, j)
 }
 
-// The derivative in u and v of the preimage of a curve that passes a surface point with a tangent, for one unit.
+// The derivative in u and v of the preimage of a curve that passes a surface point with a tangent, for one unit. Where a number of the answer is a NaN, its payload is free; nothing else is.
 pub fn derivative(
     shape: Shape,
     ku: &[f64],
