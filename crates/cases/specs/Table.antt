@@ -1,4 +1,4 @@
--- The cases that document 01 marks with a dot, as one list in its order, and the theorem that every row holds of the definitions.
+-- The cases that document 01 marks with a dot, and those of a short budget and of a refused inversion, as one list in its order, and the theorem that every row holds of the definitions.
 -- A row that takes many steps is proved by itself, since a declaration may take only so many.
 use mathlib.Core.Path.{_≡_, refl, ap, _∙_}
 use mathlib.Core.Bool.{true, false}
@@ -112,7 +112,7 @@ linear = record { degree = 1; controls = 2; periodic = false }
 
 -- knots of degree 1 over the domain from 0 to a number
 abbrev to : Float → List Float
-to end = 0· ∷ 0· ∷ end ∷ end ∷ []
+to last = 0· ∷ 0· ∷ last ∷ last ∷ []
 
 abbrev bilinear : List Float → List Float → Surface
 bilinear knotsV controls = surface (record { u = linear; v = linear }) (to 1·) knotsV controls (replicate 4 1·)
@@ -123,6 +123,7 @@ corners = 0· ∷ 0· ∷ 0· ∷ 0· ∷ 1· ∷ 0· ∷ 1· ∷ 0· ∷ 0· �
 abbrev square : Surface
 square = bilinear (to 1·) corners
 
+-- v runs to 1.7e308
 abbrev stretched : Surface
 stretched = bilinear (to huge) corners
 
@@ -150,7 +151,7 @@ terms hint tolerance = record { hint = hint; tolerance = tolerance; u = Free; v 
 abbrev end : Float → Float → Float → End
 end u v distance = record { u = u; v = v; distance = distance }
 
--- the Square's point nearest to the mark
+-- the pair of the Square's point that is nearest to its mark, with its distance
 abbrev foot : End
 foot = end ¼· ½· ¾·
 

@@ -64,13 +64,15 @@ module _ (terms : Terms) where
     abbrev steps : Priced End
     steps = stepsOf s mark terms
 
-    pub answer-is : (budget : ℕ) → placed s mark terms budget ≡ placingOf budget terms (outcomeOf (spend budget steps))
+    answer-is : (budget : ℕ) → placed s mark terms budget ≡ placingOf budget terms (outcomeOf (spend budget steps))
     unfolding placed checked judged onChecked placedBy
     answer-is budget = simp (ok, sound)
 
+    -- with the price or more the call answers what the plain steps came to
     pub answer-enough : (budget : ℕ) → Price.price steps ≤ budget → placed s mark terms budget ≡ resultOf terms steps
     answer-enough budget h = answer-is budget ∙ ap (λ (p : Paid End). placingOf budget terms (outcomeOf p)) (spend-enough budget steps h) ∙ paid-result budget steps
 
+    -- with less it takes all units, and answers 8
     pub answer-short : (budget : ℕ) → budget < Price.price steps → placed s mark terms budget ≡ Refusal 8 budget
     unfolding placingOf outcomeOf
     answer-short budget h = answer-is budget ∙ ap (λ (p : Paid End). placingOf budget terms (outcomeOf p)) (spend-short budget steps h)
