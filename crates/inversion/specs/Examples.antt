@@ -1,7 +1,7 @@
 -- Two refused inversions with a hint, computed: what its run took is charged once.
 use mathlib.Core.Path.{_≡_, refl}
 use mathlib.Core.Bool.{Bool, true, false}
-use mathlib.Core.List.{List, [], _∷_}
+use mathlib.Core.List.{[], _∷_}
 use lib.IntN.{pos, negsuc}
 use lib.Ieee.{Float, fin}
 use Rattle.float64.specs.Operators.{0·, ½·, 1·}

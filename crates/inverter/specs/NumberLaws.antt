@@ -1,7 +1,8 @@
 -- 01's number of each answer, in its order, for all input: when it is answered, and never elsewhere; and the budget left. Assumes nothing.
-use mathlib.Core.Path.{_≡_, refl, _∙_}
-use mathlib.Core.Bool.{Bool, true, false, not, cond, _&&_, _||_}
-use Prim.Native.Nat.{ℕ, zero, suc, _-_}
+use mathlib.Core.Path.{_≡_, refl, sym, subst}
+use mathlib.Core.Bool.{Bool, true, false, not, cond, _&&_, _||_, true≢false, false≢true}
+use mathlib.Core.Logic.{_↔_}
+use Prim.Native.Nat.{ℕ, zero, suc, _-_, _<_}
 use native.Mathlib.Omega.{arith}
 use lib.Dec.{ltb}
 use lib.Ieee.{Float, le}
@@ -14,6 +15,8 @@ use Rattle.patch.specs.declared.Jet.{Jet}
 use Rattle.patch.specs.declared.Evaluated.{Evaluated}
 use Rattle.patch.specs.declared.Evaluated.the-variants.{Found, Refused}
 use Rattle.surface.specs.Surface.{Surface, orElse, when, scaleOf, refusalOfSurface, judged, checked, evaluateBy}
+use Rattle.surface.specs.Refusals.{Line, this, next, None, SurfaceLines}
+use Rattle.surface.specs.NumberLaws.{none-one, line-one, Decides, above, tested, numbered}
 use Rattle.price.specs.Price.{Priced, refused, answered, price}
 use Rattle.newton.specs.declared.End.{End}
 use Rattle.chart.specs.declared.Terms.{Terms}
@@ -29,20 +32,39 @@ use Rattle.inverter.specs.Plane.{soundPlane, localOf, placedOn}
 use Rattle.inverter.specs.Preimage.{resolved, moved, movedFrom, derived}
 use Rattle.inverter.specs.PlacingLaws.{stepsOf, resultOf, answer-enough, answer-short}
 
-abbrev pub isZero : ℕ → Bool
+abbrev isZero : ℕ → Bool
 isZero zero = true
 isZero (suc n) = false
 
+is-zero : (n : ℕ) → Decides (isZero n) (n ≡ 0)
+is-zero zero = (λ e. refl, λ e. absurd (true≢false e))
+is-zero (suc n) = (λ e. absurd (false≢true e), λ e h. omega arith)
+
+fails : (b : Bool) → Decides (not b) (b ≡ false)
+fails true = (λ e. absurd (false≢true e), λ e h. true≢false h)
+fails false = (λ e. refl, λ e. absurd (true≢false e))
+
+abbrev accepted : Surface → Bool
+accepted s = isZero (refusalOfSurface s)
+
 -- ---- a mark on a surface
 
--- whether an evaluation of the steps refused
-abbrev pub isRefused : {A : Type 0} → Priced A → Bool
-isRefused (refused n) = true
-isRefused (answered a n) = false
+-- an evaluation of the steps refused
+abbrev pub Refuses : Priced End → Type 0
+Refuses (refused n) = Unit {0}
+Refuses (answered e n) = ⊥
 
--- the number where the checks pass: 8 where the budget is below the price, else 9 where an evaluation refuses
-abbrev pub workNumber : ℕ → Priced End → ℕ
-workNumber budget p = orElse (when (ltb budget (price p)) 8) (when (isRefused p) 9)
+abbrev isRefused : Priced End → Bool
+isRefused (refused n) = true
+isRefused (answered e n) = false
+
+refuses : (p : Priced End) → Decides (isRefused p) (Refuses p)
+refuses (refused n) = (λ e. tt, λ e. absurd (true≢false e))
+refuses (answered e n) = (λ e. absurd (false≢true e), λ e h. h)
+
+-- where the checks pass: 8 where the budget is below the price, else 9 where an evaluation refuses
+abbrev workNumber : ℕ → Priced End → ℕ
+workNumber budget p = orElse (when (ltb budget (price p)) 8) (orElse (when (isRefused p) 9) 0)
 
 module _ (s : Surface) (mark : Vector3) (terms : Terms) (budget : ℕ) where
   -- an answer by the checks: the surface's number, 7, or that of the work, which takes its price or all
@@ -66,7 +88,7 @@ module _ (s : Surface) (mark : Vector3) (terms : Terms) (budget : ℕ) where
   unfolding Chart.numberOf orElse
   work-number ok sound = by (ltb budget (price (stepsOf s mark terms))) refl
     where
-      told : (p : Priced End) → Chart.numberOf (resultOf terms p) ≡ when (isRefused p) 9
+      told : (p : Priced End) → Chart.numberOf (resultOf terms p) ≡ orElse (when (isRefused p) 9) 0
       told (refused n) = refl
       told (answered e n) = refl
 
@@ -74,15 +96,23 @@ module _ (s : Surface) (mark : Vector3) (terms : Terms) (budget : ℕ) where
       by true l = rw (answer-short terms s ok mark sound budget (ltb-true _ _ l), l) refl
       by false l = rw (answer-enough terms s ok mark sound budget (ltb-false _ _ l), l) (told (stepsOf s mark terms))
 
-  -- the surface's first refusal, then 7, then 8 where the budget is below the price, then 9
-  pub placed-number : Chart.numberOf (placed s mark terms budget)
-      ≡ orElse (refusalOfSurface s) (orElse (when (not (soundSearch mark terms)) 7) (workNumber budget (stepsOf s mark terms)))
+  placed-refusal : Chart.numberOf (placed s mark terms budget) ≡ orElse (refusalOfSurface s) (orElse (when (not (soundSearch mark terms)) 7) (workNumber budget (stepsOf s mark terms)))
   unfolding Chart.numberOf orElse
-  placed-number =
+  placed-refusal =
       by-checks (λ g. Chart.numberOf g ≡ orElse (refusalOfSurface s) (orElse (when (not (soundSearch mark terms)) 7) (workNumber budget (stepsOf s mark terms))))
       (λ n e. rw e refl)
       (λ ok t. rw (ok, t) refl)
       (λ ok t. rw (ok, t) (work-number ok t))
+
+  -- the surface's lines, 7 where check 7 fails, 8 where the budget is below the price, 9 where an evaluation of the plain steps refuses
+  pub placed-number : (n : ℕ)
+      → SurfaceLines s (Line (soundSearch mark terms ≡ false) 7 (Line (budget < price (stepsOf s mark terms)) 8 (Line (Refuses (stepsOf s mark terms)) 9 None))) n
+      ↔ (Chart.numberOf (placed s mark terms budget) ≡ n)
+  placed-number n =
+      let p = stepsOf s mark terms in
+      let nine = tested None 0 refl 8 (isRefused p) (refuses p) in
+      let eight = tested _ _ nine 7 (ltb budget (price p)) (above budget (price p)) in
+      rw placed-refusal (numbered s _ (line-one (line-one (line-one none-one))) _ (tested _ _ eight 6 (not (soundSearch mark terms)) (fails (soundSearch mark terms))) n)
 
   work-left : refusalOfSurface s ≡ 0 → soundSearch mark terms ≡ true → Chart.leftOf budget (placed s mark terms budget) ≡ budget - price (stepsOf s mark terms)
   unfolding Chart.leftOf
@@ -98,10 +128,10 @@ module _ (s : Surface) (mark : Vector3) (terms : Terms) (budget : ℕ) where
 
   -- a check that refuses leaves the budget; else the price is taken of it, or all
   pub placed-left : Chart.leftOf budget (placed s mark terms budget)
-      ≡ budget - cond (isZero (refusalOfSurface s) && soundSearch mark terms) (price (stepsOf s mark terms)) 0
+      ≡ budget - cond (accepted s && soundSearch mark terms) (price (stepsOf s mark terms)) 0
   unfolding Chart.leftOf
   placed-left =
-      by-checks (λ g. Chart.leftOf budget g ≡ budget - cond (isZero (refusalOfSurface s) && soundSearch mark terms) (price (stepsOf s mark terms)) 0)
+      by-checks (λ g. Chart.leftOf budget g ≡ budget - cond (accepted s && soundSearch mark terms) (price (stepsOf s mark terms)) 0)
       (λ n e. rw e refl)
       (λ ok t. rw (ok, t) refl)
       (λ ok t. rw (ok, t) (work-left ok t))
@@ -124,14 +154,13 @@ charged-left false budget c h = refl
 charged-left true zero c h = refl
 charged-left true (suc k) c h = h (suc k)
 
--- a mark on a plane: 7, then 8 where there is no unit
-pub plane-number : (f : Frame) (mark : Vector3) (budget : ℕ) → numberOf (placedOn f mark budget) ≡ orElse (when (not (soundPlane f mark)) 7) (when (isZero budget) 8)
-unfolding placedOn localOf numberOf orElse
-plane-number f mark budget = charged-number (soundPlane f mark) budget (localOf f mark) ∙ by (soundPlane f mark) (isZero budget)
-  where
-    by : (t b : Bool) → orElse (when (not t) 7) (orElse (when b 8) 0) ≡ orElse (when (not t) 7) (when b 8)
-    by t true = refl
-    by t false = refl
+-- a mark on a plane: 7 where check 7 fails, 8 where there is no unit
+pub plane-number : (f : Frame) (mark : Vector3) (budget n : ℕ) → Line (soundPlane f mark ≡ false) 7 (Line (budget ≡ 0) 8 None) n ↔ (numberOf (placedOn f mark budget) ≡ n)
+unfolding placedOn localOf numberOf
+plane-number f mark budget n =
+    let eight = tested None 0 refl 7 (isZero budget) (is-zero budget) in
+    let seven = tested _ _ eight 6 (not (soundPlane f mark)) (fails (soundPlane f mark)) in
+    rw charged-number (λ h. line-one (line-one none-one) _ _ seven h, λ e. subst (Line (soundPlane f mark ≡ false) 7 (Line (budget ≡ 0) 8 None)) e seven)
 
 pub plane-left : (f : Frame) (mark : Vector3) (budget : ℕ) → leftOf budget (placedOn f mark budget) ≡ budget - cond (soundPlane f mark) 1 0
 unfolding placedOn localOf leftOf
@@ -152,18 +181,33 @@ isFlat j =
     let det = a ⊗ c ⊖ b ⊗ b in
     not (isFinite det) || le det (1e-24 ⊗ a ⊗ c)
 
+abbrev pub Flat : Evaluated → Type 0
+Flat Refused = ⊥
+Flat (Found j) = isFlat j ≡ true
+
 -- 9 where the evaluation refuses, 10 where its derivatives don't span the plane
-abbrev pub jetNumber : Evaluated → ℕ
+abbrev JetLines : Evaluated → ℕ → Type 0
+JetLines e = Line (e ≡ Refused) 9 (Line (Flat e) 10 None)
+
+abbrev jetNumber : Evaluated → ℕ
 jetNumber Refused = 9
-jetNumber (Found j) = when (isFlat j) 10
+jetNumber (Found j) = orElse (when (isFlat j) 10) 0
+
+jet-tested : (e : Evaluated) → JetLines e (jetNumber e)
+jet-tested Refused = this refl
+jet-tested (Found j) = next (λ e. let z : _≡_ {A = ℕ} 0 1 = cc in omega arith) (tested None 0 refl 9 (isFlat j) (holds (isFlat j)))
+  where
+    holds : (b : Bool) → Decides b (b ≡ true)
+    holds true = (λ e. refl, λ e. absurd (true≢false e))
+    holds false = (λ e. e, λ e h. true≢false (sym h))
 
 module _ (d : Vector3) where
   moved-number : (e : Evaluated) → numberOf (movedFrom d e) ≡ jetNumber e
-  unfolding movedFrom moved resolved numberOf
+  unfolding movedFrom moved resolved numberOf orElse
   moved-number Refused = refl
   moved-number (Found j) = by (isFlat j) _ _
     where
-      by : (t : Bool) (x y : Float) → numberOf (cond t (Refusal 10 1) (Along x y)) ≡ when t 10
+      by : (t : Bool) (x y : Float) → numberOf (cond t (Refusal 10 1) (Along x y)) ≡ orElse (when t 10) 0
       by true x y = refl
       by false x y = refl
 
@@ -177,11 +221,10 @@ module _ (d : Vector3) where
       by false x y = refl
 
 module _ (s : Surface) (u v : Float) (d : Vector3) (budget : ℕ) where
-  -- the surface's first refusal, then 7 for the vector, then 8 where there is no unit, then 9, then 10
-  pub derived-number : numberOf (derived s u v d budget)
+  derived-refusal : numberOf (derived s u v d budget)
       ≡ orElse (refusalOfSurface s) (orElse (when (not (finiteVector d)) 7) (orElse (when (isZero budget) 8) (jetNumber (evaluateBy s (scaleOf s) u v))))
   unfolding derived checked judged onChecked orElse numberOf
-  derived-number = by (refusalOfSurface s)
+  derived-refusal = by (refusalOfSurface s)
     where
       work : numberOf (charged (finiteVector d) budget (movedFrom d (evaluateBy s (scaleOf s) u v)))
           ≡ orElse (when (not (finiteVector d)) 7) (orElse (when (isZero budget) 8) (jetNumber (evaluateBy s (scaleOf s) u v)))
@@ -192,7 +235,15 @@ module _ (s : Surface) (u v : Float) (d : Vector3) (budget : ℕ) where
       by zero = work
       by (suc n) = refl
 
-  pub derived-left : leftOf budget (derived s u v d budget) ≡ budget - cond (isZero (refusalOfSurface s) && finiteVector d) 1 0
+  -- the surface's lines, 7 where the vector is not finite, 8 where there is no unit, then 9 and 10
+  pub derived-number : (n : ℕ)
+      → SurfaceLines s (Line (finiteVector d ≡ false) 7 (Line (budget ≡ 0) 8 (Line (evaluateBy s (scaleOf s) u v ≡ Refused) 9 (Line (Flat (evaluateBy s (scaleOf s) u v)) 10 None)))) n
+      ↔ (numberOf (derived s u v d budget) ≡ n)
+  derived-number n =
+      let eight = tested _ _ (jet-tested (evaluateBy s (scaleOf s) u v)) 7 (isZero budget) (is-zero budget) in
+      rw derived-refusal (numbered s _ (line-one (line-one (line-one (line-one none-one)))) _ (tested _ _ eight 6 (not (finiteVector d)) (fails (finiteVector d))) n)
+
+  pub derived-left : leftOf budget (derived s u v d budget) ≡ budget - cond (accepted s && finiteVector d) 1 0
   unfolding derived checked judged onChecked leftOf
   derived-left = by (refusalOfSurface s)
     where

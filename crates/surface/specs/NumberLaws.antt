@@ -48,10 +48,10 @@ or-else-assoc zero b c = refl
 or-else-assoc (suc a) b c = refl
 
 -- the test passes where the cause holds, and only there
-abbrev Decides : Bool → Type 0 → Type 0
+abbrev pub Decides : Bool → Type 0 → Type 0
 Decides b cause = (b ≡ true → cause) × (b ≡ false → cause → ⊥)
 
-above : (m n : ℕ) → Decides (ltb m n) (m < n)
+pub above : (m n : ℕ) → Decides (ltb m n) (m < n)
 above m n = (ltb-true m n, λ e h. omega (arith, ltb-false m n e))
 
 unequal : (m n : ℕ) → Decides (not (eqb m n)) (m ≡ n → ⊥)
@@ -97,7 +97,8 @@ unweighed : (ws : List Float) → Decides (isEmpty ws || not (sound ws) || vanis
 unweighed ws = rw or-assoc (either _ _ (empty ws) (either _ _ (some-failing sound-each ws) (vanishes (largest 0· ws) ws)))
 
 module _ (later : ℕ → Type 0) (n : ℕ) (l : later n) where
-  tested : {cause : Type 0} (k : ℕ) (b : Bool) → Decides b cause → Line cause (suc k) later (orElse (when b (suc k)) n)
+  -- a line that is tested before what later lines answer
+  pub tested : {cause : Type 0} (k : ℕ) (b : Bool) → Decides b cause → Line cause (suc k) later (orElse (when b (suc k)) n)
   unfolding orElse
   tested k true d = this (d .0 refl)
   tested k false d = next (d .1 refl) l

@@ -16,7 +16,7 @@ use Rattle.spline.specs.declared.weights.Weighed.the-variants as Weighed
 use Rattle.spline.specs.Weights.{sound, vanishing, isEmpty, weighed, refusalOf}
 use Rattle.spline.specs.WeightLaws.{scale-of}
 use Rattle.spline.specs.Knots.{allFinite, refusalOfKnots}
-use Rattle.spline.specs.Each.{Each, each-at}
+use Rattle.spline.specs.Each.{Each, each-at, all-of-each}
 use Rattle.surface.specs.declared.Checked.the-variants as Check
 use Rattle.surface.specs.Surface.{Surface, axisU, axisV, total, orElse, when, tooLarge, miscounted, refusalOfSurface, scaleOf, judged, checked, wrapped}
 
@@ -36,13 +36,6 @@ module _ {one : Float → List Float → Bool} {all : List Float → Bool} (each
           → (i : ℕ) × (i < length (x ∷ xs)) × (one (getD (x ∷ xs) i nan) (drop (suc i) (x ∷ xs)) ≡ false)
       by false e h r = (0, omega arith, e)
       by true e h r = let n = r h in (suc (n .0), omega arith, n .2)
-
-all-finite : (xs : List Float) → ((i : ℕ) → i < length xs → isFinite (getD xs i nan) ≡ true) → allFinite xs ≡ true
-all-finite xs h = by (allFinite xs) refl
-  where
-    by : (b : Bool) → allFinite xs ≡ b → b ≡ true
-    by true e = refl
-    by false e = let n = some-fails finite-each xs e in absurd (true≢false (sym (h (n .0) (n .1)) ∙ n .2))
 
 none-of : (m n : ℕ) → orElse m n ≡ 0 → (m ≡ 0) × (n ≡ 0)
 unfolding orElse
@@ -118,7 +111,7 @@ surface-accepted s a =
       le-ltb _ _ (a .knots-most),
       eq-eqb _ _ (a .controls),
       eq-eqb _ _ (a .weights),
-      all-finite (s .controls) (a .finite),
+      all-of-each finite-each (s .controls) (a .finite),
       a .scale,
       a .knots-u,
       a .knots-v,

@@ -1,11 +1,10 @@
 -- Where a parameter that is brought into the domain of an axis lies, and when it is a NaN. Assumes nothing.
-use mathlib.Core.Path.{_≡_, refl, sym, ap, _∙_}
+use mathlib.Core.Path.{_≡_, refl, ap, _∙_}
 use mathlib.Core.List.{List}
-use mathlib.Core.Bool.{Bool, true, false, not, cond, _&&_, _||_, true≢false, false≢true, and-eq-true-iff}
+use mathlib.Core.Bool.{Bool, true, false, not, cond, _&&_, true≢false, false≢true, and-eq-true-iff}
 use Prim.Native.Nat.{ℕ, _+_, _≤_}
 use native.Mathlib.Omega.{arith}
-use lib.Dec.{T, ltb, eqb}
-use lib.ListN.{length}
+use lib.Dec.{T}
 use lib.Ieee.{Float, nan, inf, fin, binary64, add, lt, le, isNan, fits}
 use lib.Ieee.Fits.{sub-fits}
 use Rattle.float64.specs.Operators.{_⊕_, _⊖_}
@@ -15,9 +14,8 @@ use Rattle.float64.specs.Nonneg.{finite-add-number}
 use Rattle.float64.specs.Differences.{apart, difference-above}
 use Rattle.float64.specs.Magnitude.{Positive, positive, is-positive}
 use Rattle.float64.specs.RemainderLaws.{rem-euclid-exact, rem-euclid-special}
-use Rattle.spline.specs.Knots.{Axis, knot, low, high, acceptedKnots, refusalOfKnots}
-use Rattle.spline.specs.KnotLaws.{countsFit, knotsFit, domainFits, accepted-parts, accepted}
-use Rattle.spline.specs.Each.{both}
+use Rattle.spline.specs.Knots.{Axis, knot, low, high, refusalOfKnots}
+use Rattle.spline.specs.KnotLaws.{accepted}
 use Rattle.surface.specs.declared.Counts.{Counts}
 use Rattle.surface.specs.Surface.{wrapped}
 use Rattle.surface.specs.Lent.{axisOf}
@@ -119,17 +117,6 @@ module _ (lo hi t : Float) (f : isFinite lo ≡ true) (g : isFinite hi ≡ true)
 -- ---- on an axis whose knots are accepted
 
 module _ (a : Axis) (ok : refusalOfKnots a ≡ 0) where
-  range-finite : isFinite (knot a (a .controls + a .degree) ⊖ knot a 0) ≡ true
-  unfolding refusalOfKnots domainFits
-  range-finite =
-      let fit = both (countsFit (a .degree) (a .controls) (length (a .knots)) && knotsFit (a .degree + 1) (a .knots)) _ (sym (accepted-parts a) ∙ passed (eqb (a .degree) 0 || ltb 16 (a .degree)) (acceptedKnots a) ok) in
-      both (lt (low a) (high a)) _ (fit .1) .1
-    where
-      passed : (d t : Bool) → _≡_ {A = ℕ} (cond d 5 (cond t 0 6)) 0 → t ≡ true
-      passed true t h = absurd (omega arith)
-      passed false true h = refl
-      passed false false h = absurd (omega arith)
-
   -- the domain's width is at most the range of all knots
   width-finite : isFinite (high a ⊖ low a) ≡ true
   width-finite =
@@ -142,7 +129,7 @@ module _ (a : Axis) (ok : refusalOfKnots a ≡ 0) where
       let k = finite last (omega arith) in
       let below-low = A .in-order 0 (a .degree) (omega arith) (omega arith) in
       let wide = lt→le _ _ (A .wide) in
-      smaller-finite _ _ range-finite
+      smaller-finite _ _ (A .range)
       (le-trans _ _ _ (apart (knot a 0) (low a) (high a) f g h below-low wide .1)
       (apart (knot a 0) (high a) (knot a last) f h k (le-trans _ _ _ below-low wide) (A .in-order (a .controls) last (omega arith) (omega arith)) .0))
 
