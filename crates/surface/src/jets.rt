@@ -19,7 +19,7 @@ ghost use Rattle.basis.specs.Rows.{blank, basisOf};
 ghost use Rattle.surface.specs.Surface.{refusalOfSurface, evaluateBy, orNine, evaluated};
 ghost use Rattle.surface.specs.Lent.{surfaceOf, atEntry, axisOf, sampleOn};
 
-// The functions of one axis at t, put into empty rows.
+// The functions of one axis at t, put into empty rows. What the rows hold beyond the degree + 1 functions is left open, and so are the start and the rows where nothing is found.
 fn sample(knots: &[f64], counts: Counts, t: f64, rows: &mut [[f64; 18]; 3]) -> Place
     requires { ⌜ (refusalOfKnots (axisOf counts (now knots)) ≡ 0) × (now rows ≡ blank) ⌝ }
     ensures { λ r. ⌜ shown (counts .degree) (basisOf r (now (rows .exit))) ≡ sampleOn counts (now (knots .entry)) t ⌝ }

@@ -77,7 +77,7 @@ fn divide(net: &mut [f64; 289], count: usize, most: f64)
     }
 }
 
-// The weights of the patch that starts at a row and a column, as they count there: divided by the largest of all, and then by the largest of the patch.
+// The weights of the patch that starts at a row and a column, as they count there: divided by the largest of all, and then by the largest of the patch. What the net holds beyond the numbers of the patch is left open.
 pub fn weigh(
     shape: Shape,
     weights: &[f64],
