@@ -30,7 +30,7 @@ fn all_within(controls: &[f64]) -> bool
     all
 }
 
-// Every other call takes what this one answers.
+// Every other call takes what this one answers. Where `bounded` is false is left open: it is true only where the sizes of the numbers rule an overflow out.
 pub fn accept(shape: Shape, ku: &[f64], kv: &[f64], controls: &[f64], weights: &[f64]) -> Acceptance
     ensures { λ r. ⌜ AcceptedAs (atEntry shape ku kv controls weights) r ⌝ }
 {

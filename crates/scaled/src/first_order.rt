@@ -26,23 +26,23 @@ ghost use Rattle.scaled.specs.Accepted.{Accepts};
 // 2^-62. Over a weight sum of at least that no quotient of a bounded surface overflows.
 pub const LEAST_WEIGHT: f64 = 2.168404344971009e-19;
 
-// The values of the functions of one axis at t, put into an empty row.
+// The values of the functions of one axis at t, put into an empty row. What the row holds beyond the degree + 1 values is left open, and so are the start and the row where nothing is found.
 pub fn sample_values(knots: &[f64], counts: Counts, t: f64, values: &mut [f64; 18]) -> Place
     requires { ⌜ (refusalOfKnots (axisOf counts (now knots)) ≡ 0) × Basis.Bounded (axisOf counts (now knots)) × (now values ≡ replicate 18 0·) ⌝ }
     ensures { λ r. ⌜ shownPart (counts .degree) r (now (values .exit)) ≡ partOf valueOf (sampleOn counts (now (knots .entry)) t) ⌝ }
 {
-    let t = wrap_on(knots, counts, t);
+    let t = wrap_on(knots, counts, t); // before it snaps
     tabulate_values(
         knots,
         counts.degree,
         counts.controls,
         t,
-        KnotSide::Right,
+        KnotSide::Right, // at a knot the functions of the span above
         values,
     )
 }
 
-// The same with the first derivatives.
+// The same with the first derivatives, of which as much is left open.
 fn sample_firsts(
     knots: &[f64],
     counts: Counts,
@@ -66,7 +66,7 @@ fn sample_firsts(
     )
 }
 
-// What it finds is what an evaluation finds. It refuses too where the weight sum is too small for it.
+// What it finds is what an evaluation finds. Where it refuses is left open: it does too where the weight sum is too small for it.
 pub(crate) fn first_order(
     accepted: Accepted,
     ku: &[f64],
