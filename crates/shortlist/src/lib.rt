@@ -49,7 +49,7 @@ pub fn no_starts() -> Shortlist
     };
     Shortlist {
         starts,
-        limit: 0.0 / 0.0,
+        limit: 0.0 / 0.0, // a NaN: no limit
     }
 }
 
