@@ -6,11 +6,12 @@ use words::float;
 ghost use mathlib.Core.Path.{_≡_};
 ghost use Prim.Native.Nat.{_≤_};
 ghost use lib.ListN.{length};
-ghost use Rattle.search_records.specs.Search.{hintBy, periodBy};
+ghost use Rattle.search_records.specs.Search.{hintBy, periodBy, termsAt};
 
 // The hint, the tolerance, a period for u and for v, each but the tolerance with a word that says whether it is there.
 pub fn terms_at(words: &[u64]) -> Terms
     requires { ⌜ 8 ≤ length (now words) ⌝ }
+    ensures { λ r. ⌜ r ≡ termsAt (now (words .entry)) ⌝ }
 {
     let hint = hint_of(words[0], float(words[1]), float(words[2]));
     let u = period_of(words[4], float(words[5]));
