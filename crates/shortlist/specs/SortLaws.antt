@@ -1,13 +1,13 @@
 -- The definition of the starts does what its words say: it sorts, it permutes, and of equal distances it keeps the first. Assumes nothing.
-use mathlib.Core.Path.{_≡_, refl, sym, ap, _∙_}
+use mathlib.Core.Path.{_≡_, refl, sym, ap, _∙_, subst}
 use mathlib.Core.Logic.{_⊎_, inl, inr, ⊎-elim}
-use mathlib.Core.Bool.{Bool, true, false, cond, true≢false}
+use mathlib.Core.Bool.{Bool, true, false, cond, not, true≢false}
 use mathlib.Core.List.{List, [], _∷_, List·Memᴰ, List·Memᴰ·head, List·Memᴰ·tail, List·Memᴰ·not-nil, List·Memᴰ·eq-of-singleton, List·Permᴰ, List·Permᴰ·nil, List·Permᴰ·cons, List·Permᴰ·swap, List·Permᴰ·trans, Permᴰ·refl, Permᴰ·symm, head-eq-of-cons-eq, nil≢cons}
 use Prim.Native.Nat.{ℕ, zero, suc, _≤_}
 use native.Mathlib.Omega.{arith}
 use lib.ListN.{length, take, length-take}
 use lib.Ieee.{Float, lt, eq, isNan}
-use Rattle.float64.specs.Order.{never, le-total, le-antisym, le→number, lt-not-le, lt→not-le, lt-le-trans, lt-eq, eq-refl, eq-sym, eq-trans}
+use Rattle.float64.specs.Order.{never, le-total, le-antisym, le→number, lt-not-le, le-not-lt, lt→not-le, lt-irrefl, lt-le-trans, lt-trans, lt-eq, eq-refl, eq-sym, eq-trans}
 use Rattle.shortlist.specs.declared.Start.{Start}
 use Rattle.shortlist.specs.FirstSix.{insert, sorted, apartFrom, apart, startsOf}
 use Rattle.shortlist.specs.StartLaws.{Numbers, none, more, near, level, near-trans, level-sym, level-near, level-same, not-level}
@@ -268,3 +268,79 @@ starts-nearest-six ps ns =
       first = λ s m. record { later = f .first s (take-member 6 ss m) .later; first = sym (sorted-stable (s .distance) ps) ∙ f .first s (take-member 6 ss m) .first };
       rest = λ p m. met-or-beyond 6 ss (f .rising) p (f .every p (permuted (Permᴰ·symm (sorted-permutes ps)) m));
     }
+
+-- ---- what is chosen is one list
+
+at-same : (p q : Start) → level p q ≡ true → (ps : List Start) → atDistance (p .distance) ps ≡ atDistance (q .distance) ps
+at-same p q h [] = refl
+at-same p q h (r ∷ rs) = rw (level-sym r p ∙ level-same p q r h ∙ level-sym q r, at-same p q h rs)
+
+module _ (ps : List Start) (ns : Numbers ps) where
+  -- what is left of the starts behind some that are taken off: Q holds of the points further than those
+  record Left (n : ℕ) (Q : Start → Type 0) (ss : List Start) : Type 0 where
+    most : length ss ≤ n
+    rising : Ordered nearer ss
+    first : (s : Start) → List·Memᴰ s ss → First ps s × Q s
+    rest : (p : Start) → List·Memᴰ p ps → Q p → Met ss p ⊎ Beyond n ss p
+
+  some-left : (n : ℕ) (Q : Start → Type 0) (t : Start) (ts : List Start) → Left n Q [] → Left n Q (t ∷ ts) → ⊥
+  some-left n Q t ts a b =
+      let f = b .first t (List·Memᴰ·head refl) in
+      ⊎-elim (λ m. List·Memᴰ·not-nil (m .member)) (λ e. omega (arith, e .0, b .most)) (a .rest t (first-member (f .0)) (f .1))
+
+  -- no point is nearer than the first start
+  none-nearer : (n : ℕ) (Q : Start → Type 0) (t : Start) (ts : List Start) → Left n Q (t ∷ ts) → (p : Start) → List·Memᴰ p ps → Q p → nearer p t ≡ true → ⊥
+  none-nearer n Q t ts b p m q h = ⊎-elim met beyond (b .rest p m q)
+    where
+      met : Met (t ∷ ts) p → ⊥
+      met l =
+          let k = each nearer p t ts h (λ r j. lt-trans (p .distance) (t .distance) (r .distance) h (b .rising .0 r j)) (l .point) (l .member) in
+          true≢false (sym (l .as-far) ∙ not-level p (l .point) (lt→not-le (p .distance) (l .point .distance) k))
+
+      beyond : Beyond n (t ∷ ts) p → ⊥
+      beyond l = true≢false (sym (lt-trans (p .distance) (t .distance) (p .distance) h (l .1 t (List·Memᴰ·head refl))) ∙ lt-irrefl (p .distance))
+
+  heads-level : (n : ℕ) (Q : Start → Type 0) (s t : Start) (ss ts : List Start) → Left n Q (s ∷ ss) → Left n Q (t ∷ ts) → level s t ≡ true
+  heads-level n Q s t ss ts a b =
+      let f = a .first s (List·Memᴰ·head refl) in
+      let g = b .first t (List·Memᴰ·head refl) in
+      let x = first-member (f .0) in
+      let y = first-member (g .0) in
+      le-antisym
+      (s .distance)
+      (t .distance)
+      (le-not-lt (s .distance) (t .distance) (number-at ns x) (number-at ns y) ∙ ap not (never (nearer t s) (none-nearer n Q s ss a t y (g .1))))
+      (le-not-lt (t .distance) (s .distance) (number-at ns y) (number-at ns x) ∙ ap not (never (nearer s t) (none-nearer n Q t ts b s x (f .1))))
+
+  heads-same : (n : ℕ) (Q : Start → Type 0) (s t : Start) (ss ts : List Start) → Left n Q (s ∷ ss) → Left n Q (t ∷ ts) → s ≡ t
+  heads-same n Q s t ss ts a b =
+      head-eq-of-cons-eq (sym (a .first s (List·Memᴰ·head refl) .0 .first) ∙ at-same s t (heads-level n Q s t ss ts a b) ps ∙ b .first t (List·Memᴰ·head refl) .0 .first)
+
+  behind : (n : ℕ) (Q : Start → Type 0) (s : Start) (ss : List Start) → Left (suc n) Q (s ∷ ss) → Left n (λ p. Q p × (nearer s p ≡ true)) ss
+  behind n Q s ss a =
+      record { most = omega (arith, a .most); rising = a .rising .1; first = λ t m. let f = a .first t (List·Memᴰ·tail m) in (f .0, (f .1, a .rising .0 t m)); rest = rest-of }
+    where
+      met : (p : Start) → nearer s p ≡ true → (r : Start) → level p r ≡ true → List·Memᴰ r (s ∷ ss) → Met ss p
+      met p h r k (List·Memᴰ·head e) = absurd (true≢false (sym (lt-eq (s .distance) (p .distance) (s .distance) h (rw (← e) k)) ∙ lt-irrefl (s .distance)))
+      met p h r k (List·Memᴰ·tail m) = record { point = r; member = m; as-far = k }
+
+      rest-of : (p : Start) → List·Memᴰ p ps → Q p × (nearer s p ≡ true) → Met ss p ⊎ Beyond n ss p
+      rest-of p m q =
+          ⊎-elim (λ l. inl (met p (q .1) (l .point) (l .as-far) (l .member))) (λ l. inr (omega (arith, l .0), λ t j. l .1 t (List·Memᴰ·tail j))) (a .rest p m (q .0))
+
+  one-left : (n : ℕ) (Q : Start → Type 0) (ss ts : List Start) → Left n Q ss → Left n Q ts → ss ≡ ts
+  one-left n Q [] [] a b = refl
+  one-left n Q [] (t ∷ ts) a b = absurd (some-left n Q t ts a b)
+  one-left n Q (s ∷ ss) [] a b = absurd (some-left n Q s ss b a)
+  one-left zero Q (s ∷ ss) (t ∷ ts) a b = absurd (omega (arith, a .most))
+  one-left (suc n) Q (s ∷ ss) (t ∷ ts) a b =
+      let e : s ≡ t = heads-same (suc n) Q s t ss ts a b in
+      let c : Left (suc n) Q (s ∷ ts) = subst (λ (r : Start). Left (suc n) Q (r ∷ ts)) (sym e) b in
+      ap (λ (l : List Start). s ∷ l) (one-left n (λ p. Q p × (nearer s p ≡ true)) ss ts (behind n Q s ss a) (behind n Q s ts c)) ∙ ap (λ (r : Start). r ∷ ts) e
+
+-- the four facts hold of no other list
+pub chosen-only : (ps ss ts : List Start) → Numbers ps → Chosen ps ss → Chosen ps ts → ss ≡ ts
+chosen-only ps ss ts ns a b = one-left ps ns 6 (λ p. Unit {0}) ss ts (left ss a) (left ts b)
+  where
+    left : (rs : List Start) → Chosen ps rs → Left ps ns 6 (λ p. Unit {0}) rs
+    left rs c = record { most = c .six; rising = c .rising; first = λ s m. (c .first s m, tt); rest = λ p m q. c .rest p m }
