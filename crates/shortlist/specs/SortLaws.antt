@@ -280,7 +280,7 @@ module _ (ps : List Start) (ns : Numbers ps) where
   record Left (n : ℕ) (Q : Start → Type 0) (ss : List Start) : Type 0 where
     most : length ss ≤ n
     rising : Ordered nearer ss
-    first : (s : Start) → List·Memᴰ s ss → First ps s × Q s
+    first : (s : Start) → List·Memᴰ s ss → Earliest ps s × Q s
     rest : (p : Start) → List·Memᴰ p ps → Q p → Met ss p ⊎ Beyond n ss p
 
   some-left : (n : ℕ) (Q : Start → Type 0) (t : Start) (ts : List Start) → Left n Q [] → Left n Q (t ∷ ts) → ⊥
@@ -339,8 +339,8 @@ module _ (ps : List Start) (ns : Numbers ps) where
       ap (λ (l : List Start). s ∷ l) (one-left n (λ p. Q p × (nearer s p ≡ true)) ss ts (behind n Q s ss a) (behind n Q s ts c)) ∙ ap (λ (r : Start). r ∷ ts) e
 
 -- the four facts hold of no other list
-pub chosen-only : (ps ss ts : List Start) → Numbers ps → Chosen ps ss → Chosen ps ts → ss ≡ ts
-chosen-only ps ss ts ns a b = one-left ps ns 6 (λ p. Unit {0}) ss ts (left ss a) (left ts b)
+pub nearest-six-only : (ps ss ts : List Start) → Numbers ps → NearestSix ps ss → NearestSix ps ts → ss ≡ ts
+nearest-six-only ps ss ts ns a b = one-left ps ns 6 (λ p. Unit {0}) ss ts (left ss a) (left ts b)
   where
-    left : (rs : List Start) → Chosen ps rs → Left ps ns 6 (λ p. Unit {0}) rs
+    left : (rs : List Start) → NearestSix ps rs → Left ps ns 6 (λ p. Unit {0}) rs
     left rs c = record { most = c .six; rising = c .rising; first = λ s m. (c .first s m, tt); rest = λ p m q. c .rest p m }
