@@ -35,7 +35,7 @@ fn walked(refusal: u64, taken: u64, shortlist: Shortlist) -> Walked
     }
 }
 
-// Each charge comes before its evaluation. The shape is lent from where it stands in `accepted`: a variable of its own would be put together again for each point.
+// Each charge comes before its evaluation. Left open are the starts where an evaluation refused; where no unit was left, the starts, the units taken and the number, which is neither 0 nor 9. The shape is lent from where it stands in `accepted`: a variable of its own would be put together again for each point.
 pub fn walk(
     accepted: Accepted,
     ku: &[f64],

@@ -35,6 +35,7 @@ pub struct Shortlist {
     pub limit: f64,
 }
 
+// What stands in the array is left open.
 pub fn no_starts() -> Shortlist
     ensures { λ r. ⌜ (startsIn (r .starts) ≡ []) × Sound r ⌝ }
 {
@@ -106,7 +107,7 @@ fn enter(s: Starts, x: Start) -> Starts
     splice(at, count, i, x)
 }
 
-// The point at u and v put in, by the square of its distance. One that is no nearer than the last of six changes nothing, and no more do those from there on.
+// The point at u and v put in, by the square of its distance. One that is no nearer than the last of six changes nothing, and no more do those from there on. What stands in the array beyond the count is left open, and so is which limit it answers.
 pub fn keep(s: Starts, square: f64, u: f64, v: f64) -> Shortlist
     requires { ⌜ (s .count ≤ 6) × Rising (startsIn s) × (lt square 0· ≡ false) × T (fits binary64 square) ⌝ }
     ensures { λ r. ⌜ (startsIn (r .starts) ≡ kept (startAt (root square) u v) (startsIn s)) × (r .starts .count ≤ 6) × Limits (r .limit) (startsIn (r .starts)) ⌝ }
