@@ -17,12 +17,12 @@ use Rattle.spline.specs.declared.parameter.KnotSide.the-variants.{Right}
 use Rattle.spline.specs.Weights.{weighed, refusalOf}
 use Rattle.spline.specs.Knots.{Axis, axis}
 use Rattle.basis.specs.Basis.{Sample, sample, three, basisAt}
-use Rattle.price.specs.Price.{Priced, refused, answered, price, after, mapped, _then_, paid}
+use Rattle.price.specs.Price.{Priced, refused, answered, price, after, mapped, _then_}
 use Rattle.surface.specs.declared.Counts.{Counts}
 use Rattle.surface.specs.Surface.{Surface, surface, axisU, axisV, scaleOf, refusalOfSurface, wrapped, evaluateBy}
 use Rattle.surface.specs.Intervals.{domainOf}
 use Rattle.newton.specs.declared.End.{End}
-use Rattle.newton.specs.Run.{run, outcomeOf}
+use Rattle.newton.specs.Run.{run}
 use Rattle.grid.specs.Axis.{valuesOf}
 use Rattle.shortlist.specs.declared.Start.{Start}
 use Rattle.shortlist.specs.FirstSix.{startAt, startsOf}
@@ -37,13 +37,13 @@ use Rattle.chart.specs.declared.Period.the-variants.{Free}
 use Rattle.chart.specs.declared.Terms.{Terms}
 use Rattle.chart.specs.declared.Placing.{Placing}
 use Rattle.chart.specs.declared.Placing.the-variants as Placing
-use Rattle.chart.specs.Chart.{soundSearch, nearestTo, placingOf}
+use Rattle.chart.specs.Chart.{soundSearch, nearestTo}
 use Rattle.chart.specs.Chart as Chart
 use Rattle.inverter.specs.declared.Components.{Components}
 use Rattle.inverter.specs.declared.Components.the-variants.{Along, Refusal}
 use Rattle.inverter.specs.Inverter.{placed, numberOf, leftOf}
 use Rattle.inverter.specs.Preimage.{derived}
-use Rattle.inverter.specs.PlacingLaws.{answer-enough, answer-short}
+use Rattle.inverter.specs.PlacingLaws.{resultOf, answer-enough, answer-short}
 use Rattle.inverter.specs.Compute.{compute}
 use Rattle.edges.specs.declared.Edge.{Edge}
 use Rattle.edges.specs.declared.Edge.the-variants.{Open, Collapsed}
@@ -329,7 +329,7 @@ module _ (s : Surface) (m : Vector3) (t : Float) (ss : List Start) (n : ℕ) (es
 -- ---- the call by its plain steps
 
 module _ (s : Surface) (m : Vector3) (hint : Hint) (t : Float) (p : Priced End) (ok : refusalOfSurface s ≡ 0) (sound : soundSearch m (terms hint t) ≡ true) (steps : inversionBy s (scaleOf s) m hint t ≡ p) where
-  enough : placed s m (terms hint t) (price p) ≡ placingOf 0 (terms hint t) (outcomeOf (paid p))
+  enough : placed s m (terms hint t) (price p) ≡ resultOf (terms hint t) p
   enough = rw steps at (answer-enough (terms hint t) s ok m sound (price p) (rw steps (omega arith)))
 
   short : (budget : ℕ) → budget < price p → placed s m (terms hint t) budget ≡ Placing.Refusal 8 budget
