@@ -1,7 +1,29 @@
 -- A surface that a record holds. Definitions only.
+use mathlib.Core.List.{List}
 use Prim.Native.Nat.{ℕ}
-use Rattle.replay.specs.Cursors.{Within}
+use Rattle.replay.specs.declared.cursor.Cursor.{Cursor}
+use Rattle.replay.specs.Cursors.{Within, wordAt, numbersAt}
+use Rattle.surface.specs.Flags.{shapeOf}
 use Rattle.surface_records.specs.declared.Lent.{Lent}
+
+-- both degrees, both counts of controls, the flags; then four lists of numbers, each after its count
+unfoldable pub surfaceAt : List ℕ → Cursor → Lent
+surfaceAt ws c =
+    let du = wordAt ws c in
+    let dv = wordAt ws (du .next) in
+    let nu = wordAt ws (dv .next) in
+    let nv = wordAt ws (nu .next) in
+    let flags = wordAt ws (nv .next) in
+    let ku = numbersAt ws (flags .next) in
+    let kv = numbersAt ws (ku .next) in
+    let controls = numbersAt ws (kv .next) in
+    record {
+      shape = shapeOf (du .value) (dv .value) (nu .value) (nv .value) (flags .value);
+      ku = ku;
+      kv = kv;
+      controls = controls;
+      weights = numbersAt ws (controls .next);
+    }
 
 -- each part of it lies in a record of `size` words
 pub record Inside (size : ℕ) (l : Lent) : Type 0 where

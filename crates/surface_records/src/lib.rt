@@ -3,8 +3,9 @@ use replay::Cursor;
 use replay::Part;
 use surface::Shape;
 use surface::shape_of;
+ghost use mathlib.Core.Path.{_≡_};
 ghost use lib.ListN.{length};
-ghost use Rattle.surface_records.specs.Surfaces.{Inside};
+ghost use Rattle.surface_records.specs.Surfaces.{Inside, surfaceAt};
 
 // The shape, and where in the record the numbers stand that are lent with it. The record goes on where the weights end.
 pub struct Lent {
@@ -17,6 +18,7 @@ pub struct Lent {
 
 // Both degrees, both counts of controls, the flags; then four lists of numbers.
 pub fn lent_surface(c: Cursor, words: &[u64]) -> Lent
+    ensures { λ r. ⌜ r ≡ surfaceAt (now (words .entry)) c ⌝ }
     ensures { λ r. ⌜ Inside (length (now (words .entry))) r ⌝ }
 {
     let du = c.word(words);
