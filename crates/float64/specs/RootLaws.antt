@@ -1,5 +1,6 @@
 -- What IEEE 754 asks of a root: no double is nearer, and no two are as near. Over whole numbers, in units of the smallest double: the root of n units is that of
--- n * 2 ^ 1074, so a double of Y units and the root of R units lie on one side of it exactly where (Y + R) * (Y + R) and 4 * (n * 2 ^ 1074) say so. Assumes nothing.
+-- n * 2 ^ 1074, so a double of Y units and the root of R units lie on one side of it exactly where (Y + R) * (Y + R) and 4 * (n * 2 ^ 1074) say so.
+-- `root-special` has the zeros, the infinities, NaN and what is below 0. Assumes nothing.
 use mathlib.Core.Path.{_≡_, refl, sym, ap, subst, _∙_}
 use mathlib.Core.Logic.{_⊎_, inl, inr}
 use mathlib.Core.Bool.{Bool, true, false, not, true≢false, false≢true}
