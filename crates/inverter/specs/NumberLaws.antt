@@ -30,9 +30,9 @@ use Rattle.inverter.specs.declared.plane.Frame.{Frame}
 use Rattle.inverter.specs.Inverter.{onChecked, placed, charged, numberOf, leftOf}
 use Rattle.inverter.specs.Plane.{soundPlane, localOf, placedOn}
 use Rattle.inverter.specs.Preimage.{resolved, moved, movedFrom, derived}
-use Rattle.inverter.specs.PlacingLaws.{stepsOf, resultOf, answer-enough, answer-short}
+use Rattle.inverter.specs.PlacingLaws.{stepsOf, resultOf, result-left, answer-enough, answer-short}
 
-abbrev isZero : ℕ → Bool
+abbrev pub isZero : ℕ → Bool
 isZero zero = true
 isZero (suc n) = false
 
@@ -44,8 +44,9 @@ fails : (b : Bool) → Decides (not b) (b ≡ false)
 fails true = (λ e. absurd (false≢true e), λ e h. true≢false h)
 fails false = (λ e. refl, λ e. absurd (true≢false e))
 
-abbrev accepted : Surface → Bool
-accepted s = isZero (refusalOfSurface s)
+-- whether a surface passes its checks
+abbrev pub passes : Surface → Bool
+passes s = isZero (refusalOfSurface s)
 
 -- ---- a mark on a surface
 
@@ -118,20 +119,16 @@ module _ (s : Surface) (mark : Vector3) (terms : Terms) (budget : ℕ) where
   unfolding Chart.leftOf
   work-left ok sound = by (ltb budget (price (stepsOf s mark terms))) refl
     where
-      told : (p : Priced End) → Chart.leftOf budget (resultOf terms p) ≡ budget - price p
-      told (refused n) = refl
-      told (answered e n) = refl
-
       by : (b : Bool) → ltb budget (price (stepsOf s mark terms)) ≡ b → Chart.leftOf budget (placed s mark terms budget) ≡ budget - price (stepsOf s mark terms)
       by true l = let h = ltb-true _ _ l in rw (answer-short terms s ok mark sound budget h) (omega (arith, h))
-      by false l = rw (answer-enough terms s ok mark sound budget (ltb-false _ _ l)) (told (stepsOf s mark terms))
+      by false l = rw (answer-enough terms s ok mark sound budget (ltb-false _ _ l)) (result-left terms budget (stepsOf s mark terms))
 
   -- a check that refuses leaves the budget; else the price is taken of it, or all
   pub placed-left : Chart.leftOf budget (placed s mark terms budget)
-      ≡ budget - cond (accepted s && soundSearch mark terms) (price (stepsOf s mark terms)) 0
+      ≡ budget - cond (passes s && soundSearch mark terms) (price (stepsOf s mark terms)) 0
   unfolding Chart.leftOf
   placed-left =
-      by-checks (λ g. Chart.leftOf budget g ≡ budget - cond (accepted s && soundSearch mark terms) (price (stepsOf s mark terms)) 0)
+      by-checks (λ g. Chart.leftOf budget g ≡ budget - cond (passes s && soundSearch mark terms) (price (stepsOf s mark terms)) 0)
       (λ n e. rw e refl)
       (λ ok t. rw (ok, t) refl)
       (λ ok t. rw (ok, t) (work-left ok t))
@@ -181,11 +178,12 @@ isFlat j =
     let det = a ⊗ c ⊖ b ⊗ b in
     not (isFinite det) || le det (1e-24 ⊗ a ⊗ c)
 
+-- the same of an evaluation that is found
 abbrev pub Flat : Evaluated → Type 0
 Flat Refused = ⊥
 Flat (Found j) = isFlat j ≡ true
 
--- 9 where the evaluation refuses, 10 where its derivatives don't span the plane
+-- 9 where the evaluation refuses, 10 where it is flat
 abbrev JetLines : Evaluated → ℕ → Type 0
 JetLines e = Line (e ≡ Refused) 9 (Line (Flat e) 10 None)
 
@@ -243,7 +241,7 @@ module _ (s : Surface) (u v : Float) (d : Vector3) (budget : ℕ) where
       let eight = tested _ _ (jet-tested (evaluateBy s (scaleOf s) u v)) 7 (isZero budget) (is-zero budget) in
       rw derived-refusal (numbered s _ (line-one (line-one (line-one (line-one none-one)))) _ (tested _ _ eight 6 (not (finiteVector d)) (fails (finiteVector d))) n)
 
-  pub derived-left : leftOf budget (derived s u v d budget) ≡ budget - cond (accepted s && finiteVector d) 1 0
+  pub derived-left : leftOf budget (derived s u v d budget) ≡ budget - cond (passes s && finiteVector d) 1 0
   unfolding derived checked judged onChecked leftOf
   derived-left = by (refusalOfSurface s)
     where

@@ -55,7 +55,7 @@ module _ (terms : Terms) where
   paid-result budget (refused n) = refl
   paid-result budget (answered e n) = refl
 
-  result-left : (budget : ℕ) (p : Priced End) → leftOf budget (resultOf terms p) ≡ budget - Price.price p
+  pub result-left : (budget : ℕ) (p : Priced End) → leftOf budget (resultOf terms p) ≡ budget - Price.price p
   unfolding leftOf
   result-left budget (refused n) = refl
   result-left budget (answered e n) = refl
