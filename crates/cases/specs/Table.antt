@@ -18,9 +18,9 @@ use Rattle.spline.specs.Weights.{weighed, refusalOf}
 use Rattle.spline.specs.Knots.{Axis, axis}
 use Rattle.basis.specs.Basis.{Sample, sample, three, basisAt}
 use Rattle.price.specs.Price.{Priced, refused, answered, price, after, mapped, _then_}
-use Rattle.surface.specs.declared.Counts.{Counts}
-use Rattle.surface.specs.Surface.{Surface, surface, axisU, axisV, scaleOf, refusalOfSurface, wrapped, evaluateBy}
-use Rattle.surface.specs.Intervals.{domainOf}
+use Rattle.domain.specs.declared.Counts.{Counts}
+use Rattle.domain.specs.Intervals.{wrapped}
+use Rattle.surface.specs.Surface.{Surface, surface, axisU, axisV, scaleOf, refusalOfSurface, evaluateBy, domainOf}
 use Rattle.newton.specs.declared.End.{End}
 use Rattle.newton.specs.Run.{run}
 use Rattle.grid.specs.Axis.{valuesOf}

@@ -11,9 +11,9 @@ use Rattle.patch.specs.declared.Evaluated.{Evaluated}
 use Rattle.patch.specs.declared.Evaluated.the-variants as Eval
 use Rattle.surface.specs.declared.Checked.{Checked}
 use Rattle.surface.specs.declared.Checked.the-variants as Check
-use Rattle.surface.specs.declared.Interval.{Interval}
-use Rattle.surface.specs.Surface.{Surface, checked, evaluateBy}
-use Rattle.surface.specs.Intervals.{domainOf, eighthOf}
+use Rattle.domain.specs.declared.Interval.{Interval}
+use Rattle.surface.specs.Surface.{Surface, checked, evaluateBy, domainOf}
+use Rattle.domain.specs.Intervals.{eighthOf}
 use Rattle.edges.specs.declared.side.Line.{Line}
 use Rattle.edges.specs.declared.Singular.{Singular}
 use Rattle.edges.specs.declared.Edge.{Edge}

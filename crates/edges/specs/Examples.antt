@@ -5,7 +5,7 @@ use mathlib.Core.List.{List, [], _∷_}
 use Prim.Native.Nat.{ℕ}
 use lib.Ieee.{Float, nan, inf, neg}
 use Rattle.float64.specs.Operators.{0·, 1·}
-use Rattle.surface.specs.declared.Counts.{Counts}
+use Rattle.domain.specs.declared.Counts.{Counts}
 use Rattle.surface.specs.Surface.{Surface, surface}
 use Rattle.edges.specs.declared.Edge.{Edge}
 use Rattle.edges.specs.declared.Edge.the-variants.{Collapsed}

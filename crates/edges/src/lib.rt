@@ -1,13 +1,13 @@
 // The edges of a surface's domain along which the surface is one point, within a tolerance.
 mod side;
 
+use domain::Shape;
+use domain::domain_of;
 use float64::is_finite;
 use side::edge;
 use side::line_of;
 use surface::Checked;
-use surface::Shape;
 use surface::check;
-use surface::domain_of;
 use vector3::Vector3;
 ghost use mathlib.Core.Path.{_≡_};
 ghost use Rattle.surface.specs.Surface.{refusalOfSurface};

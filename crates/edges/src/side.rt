@@ -1,10 +1,10 @@
 // One edge: nine samples, held against the middle one.
 use crate::Edge;
 use crate::Singular;
+use domain::Interval;
+use domain::Shape;
+use domain::eighth;
 use patch::Evaluated;
-use surface::Interval;
-use surface::Shape;
-use surface::eighth;
 use surface::surface_jet;
 use vector3::Vector3;
 use vector3::distance;

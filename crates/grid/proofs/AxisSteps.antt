@@ -10,7 +10,7 @@ use lib.Seq.{drop-cons, take-suc-set, getD-take, length-take-le}
 use lib.Ieee.{Float, nan, div, ofBits, lt, eq}
 use Rattle.float64.specs.Operators.{_⊘_, 0·}
 use Rattle.spline.specs.Knots.{Axis, high, refusalOfKnots}
-use Rattle.surface.specs.Intervals.{eighthOf}
+use Rattle.domain.specs.Intervals.{eighthOf}
 use Rattle.grid.specs.Axis.{filter, distinct, every, breaksOf, stride, thinned, eighths, between, valuesOf}
 use Rattle.grid.specs.AxisLaws.{inDomain, breaksWithin, fresh, fresh-nan, Sorted, distinct-closed, kept, kept-most, kept-sorted}
 use Rattle.grid.specs.AxisLaws.Sorted.{from}

@@ -5,7 +5,7 @@ use mathlib.Core.List.{List, [], _∷_, _++_}
 use lib.ListN.{length, take}
 use lib.Ieee.{Float, le, eq}
 use Rattle.spline.specs.Knots.{Axis, low, high}
-use Rattle.surface.specs.Intervals.{eighthOf}
+use Rattle.domain.specs.Intervals.{eighthOf}
 use Rattle.grid.specs.declared.Values.{Values}
 
 unfoldable pub filter : (Float → Bool) → List Float → List Float

@@ -1,5 +1,5 @@
 // The grid's values on an axis of accepted knots: every knot span of the domain in eighths.
-use surface::eighth;
+use domain::eighth;
 ghost use mathlib.Core.Path.{_≡_};
 ghost use mathlib.Core.Bool.{not, _&&_};
 ghost use mathlib.Core.List.{[], _∷_, _++_};

@@ -9,9 +9,8 @@ use borrow.Author.Tests.{ne-eqb}
 use Rattle.vector3.specs.declared.Vector3.{Vector3}
 use Rattle.price.specs.Price.{Priced, refused, answered, price, after, mapped, _then_, spent, spend}
 use Rattle.price.specs.PriceLaws.{after-price, after-none, after-after, then-least, was-paid, was-spent}
-use Rattle.surface.specs.declared.Domain.{Domain}
-use Rattle.surface.specs.Surface.{Surface, axisU, axisV, evaluateBy}
-use Rattle.surface.specs.Intervals.{domainOf}
+use Rattle.domain.specs.declared.Domain.{Domain}
+use Rattle.surface.specs.Surface.{Surface, axisU, axisV, evaluateBy, domainOf}
 use Rattle.newton.specs.declared.End.{End}
 use Rattle.newton.specs.declared.Outcome.{Outcome}
 use Rattle.newton.specs.declared.Outcome.the-variants.{Ended, Refused, Spent}
@@ -20,11 +19,10 @@ use Rattle.newton.specs.OutcomeLaws.{ended-told, refused-told, short-told, spen
 use Rattle.grid.specs.declared.Values.{Values}
 use Rattle.shortlist.specs.declared.Start.{Start}
 use Rattle.seeds.specs.declared.Walked.{Walked}
-use Rattle.grid.specs.Axis.{valuesOf}
+use Rattle.grid.specs.Axis.{valuesOf, listed}
 use Rattle.shortlist.specs.FirstSix.{startsOf}
 use Rattle.seeds.specs.Grid.{survey}
 use Rattle.shortlist.specs.Insert.{startsIn}
-use Rattle.grid.specs.Axis.{listed}
 use Rattle.seeds.specs.Walk.{walkedOf}
 use Rattle.inversion.specs.declared.Hint.{Hint}
 use Rattle.inversion.specs.declared.Hint.the-variants as Hint

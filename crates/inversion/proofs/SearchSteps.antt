@@ -13,7 +13,7 @@ use Rattle.vector3.specs.declared.Vector3.{Vector3}
 use Rattle.price.specs.Price.{Priced, refused, answered, price, after, mapped, _then_, spend}
 use Rattle.price.specs.PriceLaws.{after-price, after-none, after-after, after-then, mapped-then, then-same, then-least}
 use Rattle.patch.specs.declared.Evaluated.{Evaluated}
-use Rattle.surface.specs.declared.Domain.{Domain}
+use Rattle.domain.specs.declared.Domain.{Domain}
 use Rattle.newton.specs.declared.End.{End}
 use Rattle.newton.specs.declared.Outcome.{Outcome}
 use Rattle.newton.specs.declared.Outcome.the-variants.{Ended, Refused, Spent}

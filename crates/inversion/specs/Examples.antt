@@ -7,7 +7,7 @@ use lib.Ieee.{Float, fin}
 use Rattle.float64.specs.Operators.{0·, ½·, 1·}
 use Rattle.vector3.specs.declared.Vector3.{Vector3}
 use Rattle.price.specs.Price.{refused}
-use Rattle.surface.specs.declared.Counts.{Counts}
+use Rattle.domain.specs.declared.Counts.{Counts}
 use Rattle.surface.specs.Surface.{Surface, surface}
 use Rattle.inversion.specs.declared.Hint.the-variants.{At}
 use Rattle.inversion.specs.Inversion.{inversionBy}

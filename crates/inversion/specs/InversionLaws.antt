@@ -15,7 +15,7 @@ use Rattle.patch.specs.declared.Jet.{Jet}
 use Rattle.patch.specs.declared.Evaluated.{Evaluated}
 use Rattle.patch.specs.declared.Evaluated.the-variants.{Found}
 use Rattle.patch.specs.Patch.{fromMark}
-use Rattle.surface.specs.declared.Domain.{Domain}
+use Rattle.domain.specs.declared.Domain.{Domain}
 use Rattle.newton.specs.declared.End.{End}
 use Rattle.newton.specs.Run.{clampInto, run, nudges}
 use Rattle.newton.specs.RunLaws.{Ends, Inside, Reached, run-held, run-in-domain, run-descends}

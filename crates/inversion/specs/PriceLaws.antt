@@ -10,7 +10,7 @@ use Rattle.vector3.specs.declared.Vector3.{Vector3}
 use Rattle.price.specs.Price.{Priced, refused, answered, price, mapped}
 use Rattle.price.specs.PriceLaws.{Between, after-price, mapped-price, mapped-then, then-least, then-most}
 use Rattle.patch.specs.declared.Evaluated.{Evaluated}
-use Rattle.surface.specs.declared.Domain.{Domain}
+use Rattle.domain.specs.declared.Domain.{Domain}
 use Rattle.newton.specs.declared.End.{End}
 use Rattle.newton.specs.Run.{run}
 use Rattle.newton.specs.RunLaws.{run-count}

@@ -17,10 +17,9 @@ use Rattle.patch.specs.declared.Evaluated.the-variants.{Found}
 use Rattle.patch.specs.Patch.{fromMark}
 use Rattle.spline.specs.KnotLaws.{accepted}
 use Rattle.spline.specs.Knots.{Axis, low, high, refusalOfKnots}
-use Rattle.surface.specs.Surface.{Surface, axisU, axisV, refusalOfSurface, evaluateBy}
+use Rattle.surface.specs.Surface.{Surface, axisU, axisV, refusalOfSurface, evaluateBy, domainOf}
 use Rattle.surface.specs.SurfaceLaws.{accepted-surface}
 use Rattle.surface.specs.EvaluateLaws.{evaluate-numbers, evaluate-clamped}
-use Rattle.surface.specs.Intervals.{domainOf}
 use Rattle.newton.specs.declared.End.{End}
 use Rattle.newton.specs.Run.{clampInto}
 use Rattle.newton.specs.RunLaws.{Ends}

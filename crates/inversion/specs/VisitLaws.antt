@@ -12,7 +12,7 @@ use Rattle.price.specs.PriceLaws.{mapped-then}
 use Rattle.price.specs.Evaluations.{Pair, until}
 use Rattle.price.specs.EvaluationLaws.{Evaluates, evaluates-whole, mapped-evaluates, then-evaluates}
 use Rattle.patch.specs.declared.Evaluated.{Evaluated}
-use Rattle.surface.specs.declared.Domain.{Domain}
+use Rattle.domain.specs.declared.Domain.{Domain}
 use Rattle.newton.specs.declared.End.{End}
 use Rattle.newton.specs.Run.{run}
 use Rattle.newton.specs.Visits.{visits}

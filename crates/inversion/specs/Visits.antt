@@ -6,9 +6,8 @@ use Rattle.vector3.specs.declared.Vector3.{Vector3}
 use Rattle.price.specs.Price.{Priced, refused, answered}
 use Rattle.price.specs.Evaluations.{Pair, until}
 use Rattle.patch.specs.declared.Evaluated.{Evaluated}
-use Rattle.surface.specs.declared.Domain.{Domain}
-use Rattle.surface.specs.Surface.{Surface, axisU, axisV, evaluateBy}
-use Rattle.surface.specs.Intervals.{domainOf}
+use Rattle.domain.specs.declared.Domain.{Domain}
+use Rattle.surface.specs.Surface.{Surface, axisU, axisV, evaluateBy, domainOf}
 use Rattle.newton.specs.declared.End.{End}
 use Rattle.newton.specs.Run.{run}
 use Rattle.newton.specs.Visits.{visits}

@@ -8,8 +8,7 @@ use lib.Ieee.{Float, le}
 use borrow.Author.Tests.{leb-true, leb-false}
 use Rattle.vector3.specs.declared.Vector3.{Vector3}
 use Rattle.vector3.specs.Laws.{Finite, vector-finite}
-use Rattle.surface.specs.Surface.{Surface, axisU, axisV, scaleOf, refusalOfSurface, evaluateBy}
-use Rattle.surface.specs.Intervals.{domainOf}
+use Rattle.surface.specs.Surface.{Surface, axisU, axisV, scaleOf, refusalOfSurface, evaluateBy, domainOf}
 use Rattle.grid.specs.Axis.{valuesOf}
 use Rattle.shortlist.specs.FirstSix.{startsOf}
 use Rattle.shortlist.specs.SortLaws.{NearestSix}

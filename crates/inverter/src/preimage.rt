@@ -1,9 +1,9 @@
 // How u and v move as a surface point moves by a vector.
 use crate::Components;
+use domain::Shape;
 use patch::Evaluated;
 use patch::Jet;
 use surface::Checked;
-use surface::Shape;
 use surface::check;
 use surface::surface_jet;
 use vector3::Vector3;

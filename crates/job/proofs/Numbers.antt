@@ -7,7 +7,7 @@ use lib.ListN.{length, take, drop, take-append-drop}
 use lib.Seq.{take-at, drop-at}
 use lib.Ieee.{Float}
 use Rattle.digits.specs.Text.{Put, written}
-use Rattle.surface.specs.declared.Shape.{Shape}
+use Rattle.domain.specs.declared.Shape.{Shape}
 use Rattle.surface.specs.Surface.{surface}
 use Rattle.row.specs.Row.{rowed}
 use Rattle.row.specs.RowLaws.{Unshifted}

@@ -10,7 +10,7 @@ use lib.Ieee.{Float}
 use Rattle.digits.specs.Text.{Put}
 use Rattle.digits.specs.TextLaws.{put-then, written-none}
 use Rattle.vector3.specs.declared.Vector3.{Vector3}
-use Rattle.surface.specs.declared.Shape.{Shape}
+use Rattle.domain.specs.declared.Shape.{Shape}
 use Rattle.surface.specs.declared.Checked.the-variants as Check
 use Rattle.surface.specs.Surface.{Surface, surface, orElse, refusalOfSurface, checked}
 use Rattle.newton.specs.declared.End.{End}

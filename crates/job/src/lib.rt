@@ -2,6 +2,7 @@
 mod marks;
 mod surfaces;
 
+use domain::Shape;
 use job_format::HEADER_SIZE;
 use job_format::Layout;
 use job_format::controls;
@@ -9,7 +10,6 @@ use job_format::decode;
 use job_format::knots;
 use job_format::layout_of;
 use job_lines::put_refusal;
-use surface::Shape;
 use surfaces::print_decoded;
 ghost use mathlib.Core.Path.{_≡_};
 ghost use mathlib.Core.List.{_++_};

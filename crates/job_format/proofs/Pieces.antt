@@ -11,7 +11,7 @@ use lib.ListN.{length, drop, getD}
 use lib.Seq.{drop-cons}
 use borrow.Author.Tests.{le-leb, lt-leb}
 use Rattle.words.specs.Words.{littleEndian}
-use Rattle.surface.specs.Flags.{shapeOf}
+use Rattle.domain.specs.Flags.{shapeOf}
 use Rattle.job_format.specs.Format.{headerSize, Read, malformed, read, _then_, mark, flags, counts}
 use Rattle.job_format.specs.OffsetLaws.{number-at}
 

@@ -11,8 +11,8 @@ use lib.Seq.{drop-cons, set-at}
 use lib.Ieee.{Float, nan}
 use borrow.Author.Tests.{le-leb}
 use Rattle.digits.specs.Text.{ascii}
-use Rattle.surface.specs.declared.Shape.{Shape}
-use Rattle.surface.specs.Flags.{shapeOf}
+use Rattle.domain.specs.declared.Shape.{Shape}
+use Rattle.domain.specs.Flags.{shapeOf}
 use Rattle.job_format.specs.Format.{mostBytes, headerSize, termsSize, markSize, Read, malformed, read, _then_, mark, counts, header, termsRecord, markRecord, markRecords, ended, toTheEnd, afterHeader, parse}
 use Rattle.job_format.specs.Offsets.{Small, floatAt, floatsAt, after, surfaceAt, termsAt, marksAt, jobAt}
 use Rattle.job_format.specs.OffsetLaws.{floats-length, floats-split, numbers-at, terms-at, point-at}

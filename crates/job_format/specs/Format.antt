@@ -8,9 +8,9 @@ use lib.Ieee.{Float, binary64, ofBits}
 use Rattle.words.specs.Words.{littleEndian}
 use Rattle.digits.specs.Text.{ascii}
 use Rattle.vector3.specs.declared.Vector3.{Vector3}
-use Rattle.surface.specs.declared.Counts.{Counts}
-use Rattle.surface.specs.declared.Shape.{Shape}
-use Rattle.surface.specs.Flags.{shapeOf}
+use Rattle.domain.specs.declared.Counts.{Counts}
+use Rattle.domain.specs.declared.Shape.{Shape}
+use Rattle.domain.specs.Flags.{shapeOf}
 use Rattle.surface.specs.Surface.{Surface, surface}
 
 -- what a piece holds, with the bytes after it

@@ -11,7 +11,7 @@ use lib.Seq.{drop-drop, getD-drop}
 use lib.Ieee.{Float}
 use borrow.Author.Tests.{le-leb}
 use Rattle.words.specs.Words.{littleEndian}
-use Rattle.surface.specs.declared.Shape.{Shape}
+use Rattle.domain.specs.declared.Shape.{Shape}
 use Rattle.job_format.specs.Format.{headerSize, termsSize, markSize, read, _then_, number, float, floats, knots, controls, surfaceNumbers, terms, point}
 use Rattle.job_format.specs.Offsets.{floatAt, floatsAt, after, surfaceAt, termsAt, markAt}
 

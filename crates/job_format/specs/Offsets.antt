@@ -5,7 +5,7 @@ use Prim.Native.Nat.{ℕ, zero, suc, _+_, _*_, _≤_, _<_}
 use lib.Ieee.{Float, binary64, ofBits}
 use Rattle.words.specs.Words.{littleEndian}
 use Rattle.vector3.specs.declared.Vector3.{Vector3}
-use Rattle.surface.specs.declared.Shape.{Shape}
+use Rattle.domain.specs.declared.Shape.{Shape}
 use Rattle.surface.specs.Surface.{Surface, surface}
 use Rattle.job_format.specs.Format.{mostBytes, headerSize, termsSize, markSize, Read, malformed, read, Limits, Job, knots, controls}
 use Rattle.job_format.specs.declared.Layout.{Layout}

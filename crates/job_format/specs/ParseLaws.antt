@@ -12,8 +12,8 @@ use borrow.Author.Tests.{leb-true}
 use Rattle.words.specs.Words.{littleEndian}
 use Rattle.digits.specs.Text.{ascii}
 use Rattle.vector3.specs.declared.Vector3.{Vector3}
-use Rattle.surface.specs.declared.Shape.{Shape}
-use Rattle.surface.specs.Flags.{shapeOf}
+use Rattle.domain.specs.declared.Shape.{Shape}
+use Rattle.domain.specs.Flags.{shapeOf}
 use Rattle.job_format.specs.Format.{mostBytes, headerSize, termsSize, markSize, Read, malformed, read, _then_, mark, number, float, floats, flags, counts, header, knots, controls, surfaceNumbers, terms, termsRecord, point, markRecord, markRecords, Job, ended, toTheEnd, afterHeader, parse}
 use Rattle.job_format.specs.Offsets.{floatAt, floatsAt, count, after, surfaceAt, termsAt, markAt, marksAt, jobAt}
 use Rattle.job_format.specs.OffsetLaws.{from-front}

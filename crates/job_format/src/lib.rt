@@ -1,7 +1,7 @@
 // The job file: where its records stand, and its numbers as floats.
-use surface::Counts;
-use surface::Shape;
-use surface::shape_of;
+use domain::Counts;
+use domain::Shape;
+use domain::shape_of;
 use vector3::Vector3;
 use words::pair_at;
 use words::wide;

@@ -9,7 +9,7 @@ use Rattle.vector3.specs.declared.Vector3.{Vector3}
 use Rattle.patch.specs.declared.Evaluated.{Evaluated}
 use Rattle.patch.specs.declared.Evaluated.the-variants.{Found}
 use Rattle.price.specs.Price.{answered}
-use Rattle.surface.specs.declared.Domain.{Domain}
+use Rattle.domain.specs.declared.Domain.{Domain}
 use Rattle.newton.specs.Run.{run, nudges}
 use Rattle.newton.specs.Visits.{visits}
 use Rattle.newton.specs.Compute.{compute}

@@ -14,8 +14,8 @@ use Rattle.patch.specs.declared.Jet.{Jet}
 use Rattle.patch.specs.declared.Evaluated.{Evaluated}
 use Rattle.patch.specs.declared.Evaluated.the-variants as Eval
 use Rattle.patch.specs.Patch.{fromMark}
-use Rattle.surface.specs.declared.Interval.{Interval}
-use Rattle.surface.specs.declared.Domain.{Domain}
+use Rattle.domain.specs.declared.Interval.{Interval}
+use Rattle.domain.specs.declared.Domain.{Domain}
 use Rattle.newton.specs.declared.End.{End}
 use Rattle.newton.specs.declared.Held.{Held}
 use Rattle.newton.specs.declared.Step.{Step}

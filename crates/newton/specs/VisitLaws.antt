@@ -12,7 +12,7 @@ use Rattle.price.specs.Evaluations.{Pair}
 use Rattle.price.specs.EvaluationLaws.{FoundAt, last, before, Ending, Evaluates}
 use Rattle.patch.specs.declared.Evaluated.{Evaluated}
 use Rattle.patch.specs.declared.Evaluated.the-variants.{Found, Refused}
-use Rattle.surface.specs.declared.Domain.{Domain}
+use Rattle.domain.specs.declared.Domain.{Domain}
 use Rattle.newton.specs.declared.End.{End}
 use Rattle.newton.specs.declared.Held.{Held}
 use Rattle.newton.specs.declared.Plan.{Plan}

@@ -7,7 +7,7 @@ use Rattle.vector3.specs.declared.Vector3.{Vector3}
 use Rattle.price.specs.Evaluations.{Pair}
 use Rattle.patch.specs.declared.Evaluated.{Evaluated}
 use Rattle.patch.specs.declared.Evaluated.the-variants.{Found, Refused}
-use Rattle.surface.specs.declared.Domain.{Domain}
+use Rattle.domain.specs.declared.Domain.{Domain}
 use Rattle.newton.specs.declared.Held.{Held}
 use Rattle.newton.specs.declared.Plan.{Plan}
 use Rattle.newton.specs.declared.Plan.the-variants.{Halt, Probe}

@@ -7,7 +7,7 @@ use native.Mathlib.Omega.{arith}
 use lib.ListN.{length, take, getD}
 use lib.Ieee.{Float}
 use Rattle.vector3.specs.declared.Vector3.{Vector3}
-use Rattle.surface.specs.declared.Shape.{Shape}
+use Rattle.domain.specs.declared.Shape.{Shape}
 use Rattle.surface.specs.declared.Evaluation.{Evaluation}
 use Rattle.surface.specs.Surface.{surface, evaluated}
 use Rattle.chart.specs.declared.Terms.{Terms}

@@ -1,5 +1,6 @@
 // The calls for C and Rust, on numbers and lent slices. Each tests every argument, answers the number of its refusal or 0, and writes the rest of its answer to the slices lent for it.
 // A surface is lent as the degrees (du, dv) and the counts of controls (nu, nv), the flags (1 where u is periodic, and 2 more where v is), the knots (ku, kv), the controls and the weights.
+use domain::shape_of;
 use edges::nurbs_singular;
 use inverter::Frame;
 use inverter::derivative;
@@ -24,10 +25,9 @@ use lent::roomy;
 use lent::terms_of;
 use row::row;
 use surface::evaluate;
-use surface::shape_of;
 use vector3::Vector3;
 ghost use mathlib.Core.Path.{_≡_};
-ghost use Rattle.surface.specs.Flags.{shapeOf};
+ghost use Rattle.domain.specs.Flags.{shapeOf};
 ghost use Rattle.surface.specs.Lent.{atEntry};
 ghost use Rattle.placing.specs.Boundary.{vector, evaluates, inverts, rows, derives, tells, locates, prints};
 

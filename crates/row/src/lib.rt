@@ -4,6 +4,7 @@ mod one;
 
 use chart::Terms;
 use chart::sound_terms;
+use domain::Shape;
 use marks::misfit;
 use marks::place_marks;
 use newton::End;
@@ -11,7 +12,6 @@ pub use one::step;
 use scaled::Acceptance;
 use scaled::Accepted;
 use scaled::accept;
-use surface::Shape;
 ghost use mathlib.Core.Path.{_≡_};
 ghost use mathlib.Core.Bool.{false};
 ghost use lib.ListN.{length};

@@ -13,11 +13,10 @@ use lib.Ieee.{Float, nan, binary64, neg, le, ofBits}
 use Rattle.float64.specs.Magnitude.{Mag, within, mag-neg, mag-between}
 use Rattle.spline.specs.Knots.{refusalOfKnots}
 use Rattle.basis.specs.Magnitude as Basis
-use Rattle.surface.specs.declared.Domain.{Domain}
+use Rattle.domain.specs.declared.Domain.{Domain}
 use Rattle.surface.specs.declared.Checked.{Checked}
 use Rattle.surface.specs.declared.Checked.the-variants as Check
-use Rattle.surface.specs.Surface.{Surface, axisU, axisV, checked}
-use Rattle.surface.specs.Intervals.{domainOf}
+use Rattle.surface.specs.Surface.{Surface, axisU, axisV, checked, domainOf}
 use Rattle.surface.specs.SurfaceLaws.{AcceptedSurface, accepted-surface, checked-scale}
 use Rattle.scaled.specs.Magnitude.{Bounded}
 use Rattle.scaled.specs.Accepted.{Accepts}

@@ -1,11 +1,10 @@
 -- What holds of a surface that passed its checks, and of what they answer. Assumes nothing.
 use mathlib.Core.Path.{_≡_, sym, subst}
 use mathlib.Core.Bool.{true}
-use Rattle.surface.specs.declared.Shape.{Shape}
+use Rattle.domain.specs.declared.Shape.{Shape}
 use Rattle.surface.specs.declared.Checked.the-variants as Check
-use Rattle.surface.specs.Surface.{Surface, surface, checked, refusalOfSurface, scaleOf}
+use Rattle.surface.specs.Surface.{Surface, surface, checked, refusalOfSurface, scaleOf, domainOf}
 use Rattle.surface.specs.SurfaceLaws.{checked-scale}
-use Rattle.surface.specs.Intervals.{domainOf}
 use Rattle.scaled.specs.declared.Accepted.{Accepted}
 use Rattle.scaled.specs.declared.Acceptance.{Acceptance}
 use Rattle.scaled.specs.declared.Acceptance.the-variants as Acceptance

@@ -2,10 +2,10 @@
 use crate::Acceptance;
 use crate::Accepted;
 use basis::bounded;
+use domain::Shape;
+use domain::domain_of;
 use surface::Checked;
-use surface::Shape;
 use surface::check;
-use surface::domain_of;
 ghost use mathlib.Core.Path.{_≡_};
 ghost use mathlib.Core.Bool.{true};
 ghost use Prim.Native.Nat.{ℕ, _<_};

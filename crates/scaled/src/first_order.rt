@@ -3,13 +3,13 @@ use crate::Accepted;
 use basis::Place;
 use basis::tabulate_firsts;
 use basis::tabulate_values;
+use domain::Counts;
+use domain::wrap_on;
 use patch::Evaluated;
 use patch::jet_of_sums;
 use spline::KnotSide;
-use surface::Counts;
 use surface::sum_over;
 use surface::weigh;
-use surface::wrap_on;
 ghost use mathlib.Core.Path.{_≡_};
 ghost use mathlib.Core.Bool.{true};
 ghost use lib.ListN.{length, replicate};
@@ -20,7 +20,8 @@ ghost use Rattle.basis.specs.Magnitude as Basis;
 ghost use Rattle.patch.specs.declared.Jet.{Jet};
 ghost use Rattle.patch.specs.declared.Evaluated.the-variants.{Found};
 ghost use Rattle.surface.specs.Surface.{evaluateBy};
-ghost use Rattle.surface.specs.Lent.{surfaceOf, atEntry, axisOf, sampleOn};
+ghost use Rattle.domain.specs.Intervals.{axisOf};
+ghost use Rattle.surface.specs.Lent.{surfaceOf, atEntry, sampleOn};
 ghost use Rattle.scaled.specs.Accepted.{Accepts};
 
 // 2^-62. Over a weight sum of at least that no quotient of a bounded surface overflows.

@@ -3,12 +3,12 @@ mod accepting;
 mod first_order;
 
 pub use accepting::accept;
+use domain::Domain;
+use domain::Shape;
 pub use first_order::LEAST_WEIGHT;
 use first_order::first_order;
 pub use first_order::sample_values;
 use patch::Evaluated;
-use surface::Domain;
-use surface::Shape;
 use surface::surface_jet;
 ghost use mathlib.Core.Path.{_≡_};
 ghost use Rattle.surface.specs.Surface.{evaluateBy};

@@ -21,9 +21,10 @@ use Rattle.patch.specs.declared.Evaluated.{Evaluated}
 use Rattle.patch.specs.declared.Evaluated.the-variants as Evaluated
 use Rattle.patch.specs.Patch.{jetOfSums}
 use Rattle.patch.specs.Patch as Patch
-use Rattle.surface.specs.declared.Counts.{Counts}
+use Rattle.domain.specs.declared.Counts.{Counts}
 use Rattle.surface.specs.Surface.{Surface, surface, evaluateBy}
-use Rattle.surface.specs.Lent.{axisOf, sampleOn}
+use Rattle.domain.specs.Intervals.{axisOf}
+use Rattle.surface.specs.Lent.{sampleOn}
 use Rattle.surface.specs.Net.{WeighedNet, sumBy}
 use Rattle.scaled.specs.declared.Accepted.{Accepted}
 use Rattle.scaled.specs.Accepted.{not-refused, largest-is}

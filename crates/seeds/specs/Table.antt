@@ -8,7 +8,7 @@ use lib.Ieee.{Float, nan}
 use Rattle.basis.specs.Parts.{valueOf, partOf, shownPart}
 use Rattle.patch.specs.declared.Evaluated.{Evaluated}
 use Rattle.patch.specs.declared.Evaluated.the-variants as Evaluated
-use Rattle.surface.specs.declared.Counts.{Counts}
+use Rattle.domain.specs.declared.Counts.{Counts}
 use Rattle.surface.specs.Surface.{Surface}
 use Rattle.surface.specs.Lent.{sampleOn}
 use Rattle.surface.specs.Net.{Patch, WeighedNet}

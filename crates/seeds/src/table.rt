@@ -1,13 +1,13 @@
 // The values of the functions at the grid's values, worked out once: those of v for the whole grid, those of u for a row.
 use crate::Located;
 use crate::Node;
+use domain::Counts;
 use grid::Values;
 use patch::Evaluated;
 use patch::point;
 use scaled::Accepted;
 use scaled::LEAST_WEIGHT;
 use scaled::sample_values;
-use surface::Counts;
 use surface::sum_over;
 use surface::surface_jet;
 use surface::weigh;
@@ -19,7 +19,8 @@ ghost use Rattle.float64.specs.Operators.{0·};
 ghost use Rattle.spline.specs.Knots.{refusalOfKnots};
 ghost use Rattle.basis.specs.Magnitude.{Bounded};
 ghost use Rattle.surface.specs.Surface.{evaluateBy};
-ghost use Rattle.surface.specs.Lent.{axisOf, surfaceOf, atEntry};
+ghost use Rattle.domain.specs.Intervals.{axisOf};
+ghost use Rattle.surface.specs.Lent.{surfaceOf, atEntry};
 ghost use Rattle.seeds.specs.Table.{located, Known, Tabled, NetFor, Starting, Prepared};
 
 // The values of an axis's functions at t, put into an empty row. One more than where they start; 0 where they are refused, and where an overflow is not ruled out.

@@ -10,7 +10,7 @@ use lib.ListN.{length, getD, set, length-set}
 use lib.Seq.{getD-set-same, getD-set-other}
 use lib.Ieee.{Float, nan}
 use Rattle.float64.specs.Operators.{_⊘_}
-use Rattle.surface.specs.declared.Shape.{Shape}
+use Rattle.domain.specs.declared.Shape.{Shape}
 use Rattle.surface.specs.Sums.{turns, rowsOf, columnsOf, shareIn, heaviest}
 use Rattle.surface.specs.Net.{Patch, Holds, WeighedNet, Put}
 use Rattle.surface.specs.SumLaws.{before-row, patch-room}

@@ -6,11 +6,10 @@ use Prim.Native.Nat.{ℕ}
 use native.Mathlib.Omega.{arith}
 use lib.Ieee.{Float, isNan}
 use Rattle.float64.specs.Functions.{isFinite, clamp}
-use Rattle.float64.specs.Order.{lt→le}
+use Rattle.float64.specs.Order.{lt→le, finite→number}
 use Rattle.spline.specs.declared.parameter.KnotSide.the-variants.{Right}
 use Rattle.spline.specs.declared.parameter.Snapped.{Snapped}
 use Rattle.spline.specs.declared.parameter.Snapped.the-variants.{At, Outside}
-use Rattle.float64.specs.Order.{finite→number}
 use Rattle.spline.specs.Knots.{low, high, refusalOfKnots, snapped}
 use Rattle.spline.specs.KnotLaws.{accepted}
 use Rattle.spline.specs.ParameterLaws.{snap-clamp, snap-snap}
@@ -19,10 +18,12 @@ use Rattle.basis.specs.BasisLaws.{by-snapped}
 use Rattle.patch.specs.declared.Jet.{Jet}
 use Rattle.patch.specs.declared.Evaluated.the-variants.{Found}
 use Rattle.patch.specs.Laws.{FiniteJet, jet-finite}
-use Rattle.surface.specs.declared.Counts.{Counts}
-use Rattle.surface.specs.Surface.{Surface, refusalOfSurface, wrapped, blended, sampleU, sampleV, evaluateBy}
-use Rattle.surface.specs.SurfaceLaws.{accepted-surface, wrap-flagless, wrap-not-finite}
-use Rattle.surface.specs.Lent.{axisOf, sampleOn}
+use Rattle.domain.specs.declared.Counts.{Counts}
+use Rattle.domain.specs.Intervals.{wrapped, axisOf}
+use Rattle.surface.specs.Surface.{Surface, refusalOfSurface, blended, sampleU, sampleV, evaluateBy}
+use Rattle.domain.specs.WrapLaws.{wrap-flagless, wrap-not-finite}
+use Rattle.surface.specs.SurfaceLaws.{accepted-surface}
+use Rattle.surface.specs.Lent.{sampleOn}
 
 -- where a parameter of an axis lies, wrapped and snapped
 abbrev pub placed : Counts → List Float → Float → Snapped

@@ -1,6 +1,6 @@
--- Computed: parameters on a periodic axis whose domain runs from 0 to 1, what the checks say where nothing is lent, and a weight that is divided twice.
+-- Computed: what the checks say where nothing is lent, and a weight that is divided twice.
 use mathlib.Core.Path.{_≡_, refl}
-use mathlib.Core.Bool.{true, false}
+use mathlib.Core.Bool.{false}
 use mathlib.Core.List.{List, [], _∷_}
 use Prim.Native.Nat.{ℕ}
 use lib.IntN.{pos, negsuc}
@@ -12,37 +12,13 @@ use Rattle.patch.specs.declared.Jet.{Jet}
 use Rattle.patch.specs.declared.Evaluated.{Evaluated}
 use Rattle.patch.specs.declared.Evaluated.the-variants as Eval
 use Rattle.patch.specs.Patch.{addControl, emptySums, jetOf, rational}
-use Rattle.surface.specs.declared.Counts.{Counts}
+use Rattle.domain.specs.declared.Counts.{Counts}
 use Rattle.surface.specs.declared.Checked.{Checked}
 use Rattle.surface.specs.declared.Checked.the-variants.{Refusal}
 use Rattle.surface.specs.declared.Evaluation.the-variants.{Found}
 use Rattle.surface.specs.Sums.{weightBy, sumOver}
-use Rattle.surface.specs.Surface.{Surface, surface, functionAt, checked, wrapped, evaluated}
+use Rattle.surface.specs.Surface.{Surface, surface, functionAt, checked, evaluated}
 use Rattle.surface.specs.Compute.{compute}
-
-wrap : Float → Float
-wrap t = wrapped true 0· 1· t
-
-above : wrap (fin false 5 (negsuc 1)) ≡ fin false 1 (negsuc 1)
-unfolding compute wrap
-above = refl
-
-below : wrap (fin true 1 (negsuc 1)) ≡ fin false 3 (negsuc 1)
-unfolding compute wrap
-below = refl
-
-upper-end : wrap 1· ≡ 1·
-unfolding compute wrap
-upper-end = refl
-
--- -1e-20 and the width make 1
-just-below : wrap (ofBits binary64 0xbbc7_9ca1_0c92_4223) ≡ 1·
-unfolding compute wrap
-just-below = refl
-
-twice-round : wrap 2· ≡ 0·
-unfolding compute wrap
-twice-round = refl
 
 -- degree 1 and no knots
 counts : ℕ → Counts

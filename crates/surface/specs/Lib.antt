@@ -1,16 +1,13 @@
 pub mod Sums
 pub mod Surface
 pub mod Compute
-pub mod Flags
 pub mod Refusals
 pub mod SurfaceLaws
 pub mod Lent
-pub mod Intervals
 pub mod Net
 pub mod SumLaws
 pub mod PatchLaws
 pub mod EvaluateLaws
 pub mod NumberLaws
 pub mod LocalityLaws
-pub mod WrapLaws
 pub mod Examples

@@ -6,7 +6,7 @@ use lib.ListN.{getD}
 use lib.Ieee.{Float, nan}
 use Rattle.basis.specs.Basis.{Three, Sample, refused, sample}
 use Rattle.patch.specs.Patch.{emptySums}
-use Rattle.surface.specs.declared.Shape.{Shape}
+use Rattle.domain.specs.declared.Shape.{Shape}
 use Rattle.surface.specs.Sums.{rowsOf, columnsOf, controlAt, numberIn, heaviest}
 use Rattle.surface.specs.Surface.{Surface, surface, refusalOfSurface, scaleOf, sums, blended, sampleU, sampleV, evaluateBy, evaluatedBy, evaluated}
 use Rattle.surface.specs.SumLaws.{over-part}

@@ -11,7 +11,7 @@ use Rattle.basis.specs.Rows.{Rows, entry}
 use Rattle.patch.specs.declared.Sum.{Sum}
 use Rattle.patch.specs.declared.Sums.{Sums}
 use Rattle.patch.specs.Patch.{more, addControl, emptySum, emptySums}
-use Rattle.surface.specs.declared.Shape.{Shape}
+use Rattle.domain.specs.declared.Shape.{Shape}
 use Rattle.surface.specs.Sums.{rowsOf, columnsOf, weightIn, sumOver}
 
 -- a patch that starts at a row and a column lies in the net of controls

@@ -13,7 +13,7 @@ use Rattle.basis.specs.Parts.{valueOf, firstOf}
 use Rattle.patch.specs.declared.Sum.{Sum}
 use Rattle.patch.specs.declared.Sums.{Sums}
 use Rattle.patch.specs.Patch.{addControl, emptySums}
-use Rattle.surface.specs.declared.Shape.{Shape}
+use Rattle.domain.specs.declared.Shape.{Shape}
 use Rattle.surface.specs.Sums.{turns, rowsOf, columnsOf, overPatch, sumOver}
 use Rattle.surface.specs.Surface.{Surface, functionAt, sums}
 use Rattle.surface.specs.Net.{Patch, WeighedNet, netAt, threeAt, numberAt, term, sumsBy, sumBy}

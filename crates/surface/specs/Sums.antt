@@ -6,7 +6,7 @@ use lib.Ieee.{Float, nan}
 use Rattle.float64.specs.Operators.{_⊘_, 0·}
 use Rattle.float64.specs.Functions.{max}
 use Rattle.vector3.specs.declared.Vector3.{Vector3}
-use Rattle.surface.specs.declared.Shape.{Shape}
+use Rattle.domain.specs.declared.Shape.{Shape}
 
 -- t after k turns, which are numbered from 0 on
 unfoldable pub turns : {T : Type 0} → (ℕ → T → T) → ℕ → T → T

@@ -4,9 +4,8 @@ use mathlib.Core.List.{List}
 use Prim.Native.Nat.{ℕ, zero, suc, _+_, _*_}
 use lib.Dec.{ltb, eqb}
 use lib.ListN.{length, getD}
-use lib.Ieee.{Float, nan, le}
-use Rattle.float64.specs.Operators.{_⊕_, _⊖_, 0·}
-use Rattle.float64.specs.Functions.{isFinite, clamp, remEuclid}
+use lib.Ieee.{Float, nan}
+use Rattle.float64.specs.Operators.{0·}
 use Rattle.spline.specs.declared.parameter.KnotSide.the-variants.{Right}
 use Rattle.spline.specs.Weights.{largest, weighed}
 use Rattle.spline.specs.Weights as Weights
@@ -16,7 +15,9 @@ use Rattle.patch.specs.declared.Sums.{Sums}
 use Rattle.patch.specs.declared.Evaluated.{Evaluated}
 use Rattle.patch.specs.declared.Evaluated.the-variants as Evaluated
 use Rattle.patch.specs.Patch.{addControl, emptySums, rational}
-use Rattle.surface.specs.declared.Shape.{Shape}
+use Rattle.domain.specs.declared.Shape.{Shape}
+use Rattle.domain.specs.declared.Domain.{Domain}
+use Rattle.domain.specs.Intervals.{intervalOf, wrapped}
 use Rattle.surface.specs.declared.Checked.{Checked}
 use Rattle.surface.specs.declared.Checked.the-variants as Check
 use Rattle.surface.specs.declared.Evaluation.{Evaluation}
@@ -38,6 +39,10 @@ axisU s = axis (s .shape .u .degree) (s .shape .u .controls) (s .knotsU)
 
 abbrev pub axisV : Surface → Axis
 axisV s = axis (s .shape .v .degree) (s .shape .v .controls) (s .knotsV)
+
+-- the knot domain of both axes
+abbrev pub domainOf : Surface → Domain
+domainOf s = record { u = intervalOf (s .shape .u) (s .knotsU); v = intervalOf (s .shape .v) (s .knotsV) }
 
 -- how many controls there are to be
 abbrev pub total : Surface → ℕ
@@ -79,13 +84,6 @@ judged m (suc k) = Check.Refusal (suc k)
 
 unfoldable pub checked : Surface → Checked
 checked s = judged (scaleOf s) (refusalOfSurface s)
-
--- ---- a parameter on a periodic axis, brought into the domain from lo to hi
-
-unfoldable pub wrapped : Bool → Float → Float → Float → Float
-wrapped periodic lo hi t =
-    cond (not periodic || not (isFinite t) || (le lo t && le t hi)) t
-    (clamp (lo ⊕ remEuclid (t ⊖ lo) (hi ⊖ lo)) lo hi)
 
 -- ---- the evaluation of an accepted surface whose largest weight is m
 

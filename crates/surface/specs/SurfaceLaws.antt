@@ -1,15 +1,14 @@
 -- What holds of a surface that is accepted, and of a parameter brought into the domain. Assumes nothing.
 use mathlib.Core.Path.{_≡_, refl, sym, ap, _∙_}
-use mathlib.Core.Bool.{Bool, true, false, not, _&&_, _||_, or-true, and-eq-true-iff, true≢false}
+use mathlib.Core.Bool.{Bool, true, false, not, _&&_, _||_, and-eq-true-iff, true≢false}
 use mathlib.Core.List.{List, [], _∷_}
 use Prim.Native.Nat.{ℕ, zero, suc, _+_, _*_, _≤_, _<_}
 use native.Mathlib.Omega.{arith}
 use lib.Dec.{eqb}
 use lib.ListN.{length, drop, getD}
-use lib.Ieee.{Float, nan, le}
+use lib.Ieee.{Float, nan}
 use borrow.Author.Tests.{ltb-false, eqb-true, not-false, le-ltb, eq-eqb}
-use Rattle.float64.specs.Operators.{_⊕_, _⊖_}
-use Rattle.float64.specs.Functions.{isFinite, clamp, remEuclid}
+use Rattle.float64.specs.Functions.{isFinite}
 use Rattle.float64.specs.Order.{neither}
 use Rattle.spline.specs.declared.weights.Weighed.{Weighed}
 use Rattle.spline.specs.declared.weights.Weighed.the-variants as Weighed
@@ -18,7 +17,7 @@ use Rattle.spline.specs.WeightLaws.{scale-of}
 use Rattle.spline.specs.Knots.{allFinite, refusalOfKnots}
 use Rattle.spline.specs.Each.{Each, each-at, all-of-each}
 use Rattle.surface.specs.declared.Checked.the-variants as Check
-use Rattle.surface.specs.Surface.{Surface, axisU, axisV, total, orElse, when, tooLarge, miscounted, refusalOfSurface, scaleOf, judged, checked, wrapped}
+use Rattle.surface.specs.Surface.{Surface, axisU, axisV, total, orElse, when, tooLarge, miscounted, refusalOfSurface, scaleOf, judged, checked}
 
 -- ---- the checks
 
@@ -124,22 +123,3 @@ checked-scale s m h = by (refusalOfSurface s) h
     by : (n : ℕ) → judged (scaleOf s) n ≡ Check.Scale m → (n ≡ 0) × (m ≡ scaleOf s)
     by zero h = (refl, cc)
     by (suc n) h = absurd (let z : _≡_ {A = ℕ} 0 1 = cc in omega arith)
-
--- ---- a parameter on an axis, of a domain from lo to hi
-
-module _ (periodic : Bool) (lo hi t : Float) where
-  pub wrap-flagless : periodic ≡ false → wrapped periodic lo hi t ≡ t
-  unfolding wrapped
-  wrap-flagless n = simp n
-
-  pub wrap-not-finite : isFinite t ≡ false → wrapped periodic lo hi t ≡ t
-  unfolding wrapped
-  wrap-not-finite f = simp (f, or-true)
-
-  pub wrap-inside : le lo t ≡ true → le t hi ≡ true → wrapped periodic lo hi t ≡ t
-  unfolding wrapped
-  wrap-inside l h = simp (l, h, or-true)
-
-  pub wrap-outside : periodic ≡ true → isFinite t ≡ true → (le lo t && le t hi) ≡ false → wrapped periodic lo hi t ≡ clamp (lo ⊕ remEuclid (t ⊖ lo) (hi ⊖ lo)) lo hi
-  unfolding wrapped
-  wrap-outside p f o = simp (p, f, o)

@@ -1,6 +1,6 @@
 // The checks of a surface, in the order of the numbers that they refuse with.
 use crate::Checked;
-use crate::Shape;
+use domain::Shape;
 use float64::is_finite;
 use spline::Weighed;
 use spline::check_knots;

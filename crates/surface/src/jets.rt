@@ -1,14 +1,14 @@
 // The evaluation of a surface: the sums over the patch where the parameters lie.
 use crate::Checked;
-use crate::Counts;
 use crate::Evaluation;
-use crate::Shape;
 use crate::checks::check;
-use crate::intervals::wrap_on;
 use crate::sums::sums_over;
 use crate::sums::weigh;
 use basis::Place;
 use basis::tabulate;
+use domain::Counts;
+use domain::Shape;
+use domain::wrap_on;
 use patch::Evaluated;
 use patch::rational;
 use spline::KnotSide;
@@ -17,7 +17,8 @@ ghost use Rattle.spline.specs.Knots.{refusalOfKnots};
 ghost use Rattle.basis.specs.Basis.{shown};
 ghost use Rattle.basis.specs.Rows.{blank, basisOf};
 ghost use Rattle.surface.specs.Surface.{refusalOfSurface, evaluateBy, orNine, evaluated};
-ghost use Rattle.surface.specs.Lent.{surfaceOf, atEntry, axisOf, sampleOn};
+ghost use Rattle.domain.specs.Intervals.{axisOf};
+ghost use Rattle.surface.specs.Lent.{surfaceOf, atEntry, sampleOn};
 
 // The functions of one axis at t, put into empty rows. What the rows hold beyond the degree + 1 functions is left open, and so are the start and the rows where nothing is found.
 fn sample(knots: &[f64], counts: Counts, t: f64, rows: &mut [[f64; 18]; 3]) -> Place

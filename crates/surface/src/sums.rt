@@ -1,5 +1,5 @@
 // The sums over a patch: its controls, combined by their weights and by the functions of the two axes.
-use crate::Shape;
+use domain::Shape;
 use float64::larger;
 use patch::Derivatives;
 use patch::Sum;

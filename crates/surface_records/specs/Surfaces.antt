@@ -3,7 +3,7 @@ use mathlib.Core.List.{List}
 use Prim.Native.Nat.{ℕ}
 use Rattle.replay.specs.declared.cursor.Cursor.{Cursor}
 use Rattle.replay.specs.Cursors.{Within, wordAt, numbersAt}
-use Rattle.surface.specs.Flags.{shapeOf}
+use Rattle.domain.specs.Flags.{shapeOf}
 use Rattle.surface_records.specs.declared.Lent.{Lent}
 
 -- both degrees, both counts of controls, the flags; then four lists of numbers, each after its count

@@ -6,7 +6,7 @@ ghost use Rattle.float64.specs.Functions.{root, remEuclid};
 ghost use Rattle.spline.specs.Knots.{axis, refusalOfKnots};
 ghost use Rattle.spline.specs.declared.parameter.KnotSide.the-variants.{Right};
 ghost use Rattle.basis.specs.Basis.{basisAt};
-ghost use Rattle.surface.specs.Flags.{shapeOf};
+ghost use Rattle.domain.specs.Flags.{shapeOf};
 ghost use Rattle.surface.specs.Surface.{refusalOfSurface, evaluateBy};
 ghost use Rattle.surface.specs.Lent.{surfaceOf, atEntry};
 ghost use Rattle.timing.specs.Digest.{ofSample, ofJet};
@@ -55,7 +55,7 @@ pub extern "C" fn time_evaluate(
     requires { ⌜ refusalOfSurface (surfaceOf (shapeOf pu pv nu nv 0) ku kv controls weights) ≡ 0 ⌝ }
     ensures { λ r. ⌜ r ≡ ofJet (evaluateBy (atEntry (shapeOf pu pv nu nv 0) ku kv controls weights) scale u v) ⌝ }
 {
-    let shape = surface::shape_of(pu, pv, nu, nv, 0);
+    let shape = domain::shape_of(pu, pv, nu, nv, 0);
     let jet = surface::surface_jet(shape, ku, kv, controls, weights, scale, u, v);
     let Evaluated::Found(j) = jet else {
         return 0.0f64 / 0.0f64;

@@ -1,14 +1,14 @@
 // The wrap of a periodic axis, and the evaluation of a surface.
 use answers::is_answer;
 use answers::is_refusal;
+use domain::Interval;
+use domain::Shape;
 use replay::Comparison;
 use replay::Cursor;
 use replay::lend;
 use replay::one_answer;
 use surface::Checked;
 use surface::Evaluation;
-use surface::Interval;
-use surface::Shape;
 use surface_records::Lent;
 use words::float;
 ghost use mathlib.Core.Path.{_≡_};
@@ -32,7 +32,7 @@ pub fn of_wrap(words: &[u64]) -> Comparison {
         high,
         periodic: true,
     };
-    let wrapped = [surface::wrap(domain, float(words[2]))];
+    let wrapped = [domain::wrap(domain, float(words[2]))];
     one_answer(is_answer(&words[3..], &wrapped))
 }
 

@@ -6,8 +6,8 @@ use Rattle.replay.specs.declared.cursor.Cursor.{Cursor}
 use Rattle.replay.specs.declared.cursor.Part.{Part}
 use Rattle.replay.specs.declared.cursor.Word.{Word}
 use Rattle.replay.specs.Cursors.{wordAt, numbersAt}
-use Rattle.surface.specs.declared.Shape.{Shape}
-use Rattle.surface.specs.Flags.{shapeOf}
+use Rattle.domain.specs.declared.Shape.{Shape}
+use Rattle.domain.specs.Flags.{shapeOf}
 use Rattle.surface_records.specs.declared.Lent.{Lent}
 use Rattle.surface_records.specs.Surfaces.{surfaceAt}
 use borrow.Author.Needs.{needs}

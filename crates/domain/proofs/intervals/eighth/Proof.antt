@@ -4,8 +4,8 @@ use lib.Dec.{le→leb}
 use lib.Ieee.{inFloat, ofInt}
 use mathlib.Core.Path.{refl}
 use Rattle.float64.specs.Operators.{ofNat}
-use Rattle.surface.proofs.intervals.eighth.Statement.{statement}
-use Rattle.surface.proofs.intervals.eighth.Tie as tie
+use Rattle.domain.proofs.intervals.eighth.Statement.{statement}
+use Rattle.domain.proofs.intervals.eighth.Tie as tie
 
 int-to-float-result : tie.Need-int-to-float-result
 unfolding inFloat

@@ -1,7 +1,7 @@
 -- A shape by two degrees, two counts of controls and flags. Definitions only.
 use Prim.Native.Nat.{ℕ, _/_, _%_}
 use lib.Dec.{eqb}
-use Rattle.surface.specs.declared.Shape.{Shape}
+use Rattle.domain.specs.declared.Shape.{Shape}
 
 -- a flag is a binary digit: the lowest for u periodic, the next for v
 unfoldable pub shapeOf : (du dv nu nv flags : ℕ) → Shape

@@ -1,8 +1,8 @@
 -- `surface::flags::shape_of` meets its contract, field by field. Assumes nothing.
 use mathlib.Core.Path.{refl}
-use Rattle.surface.specs.Flags.{shapeOf}
-use Rattle.surface.proofs.flags.shape_of.Statement.{statement}
-use Rattle.surface.proofs.flags.shape_of.Tie as tie
+use Rattle.domain.specs.Flags.{shapeOf}
+use Rattle.domain.proofs.flags.shape_of.Statement.{statement}
+use Rattle.domain.proofs.flags.shape_of.Tie as tie
 
 returns : tie.Need-returns
 unfolding shapeOf

@@ -5,9 +5,9 @@ use mathlib.Core.Logic.{⊎-elim}
 use lib.Ieee.{le}
 use borrow.Author.Needs.{needs}
 use borrow.Author.Tests.{not-true, not-false}
-use Rattle.surface.specs.SurfaceLaws.{wrap-flagless, wrap-not-finite, wrap-inside, wrap-outside}
-use Rattle.surface.proofs.intervals.wrap.Statement.{statement}
-use Rattle.surface.proofs.intervals.wrap.Tie as tie
+use Rattle.domain.specs.WrapLaws.{wrap-flagless, wrap-not-finite, wrap-inside, wrap-outside}
+use Rattle.domain.proofs.intervals.wrap.Statement.{statement}
+use Rattle.domain.proofs.intervals.wrap.Tie as tie
 
 outside : (c : tie.Joined3) → (let a = c .before .before .before .before .before .args in (le (a .i .low) (a .t) && le (a .t) (a .i .high)) ≡ false)
 outside c = ⊎-elim (λ w. simp (w .0 .taken, w .1 .left)) (λ w. simp (w .left)) (c .if3 .came)

@@ -9,8 +9,7 @@ use float64::rem_euclid;
 ghost use mathlib.Core.Path.{_≡_};
 ghost use Prim.Native.Nat.{_≤_};
 ghost use Rattle.spline.specs.Knots.{refusalOfKnots};
-ghost use Rattle.surface.specs.Lent.{axisOf};
-ghost use Rattle.surface.specs.Intervals.{eighthOf, intervalOf, wrappedOn};
+ghost use Rattle.domain.specs.Intervals.{axisOf, eighthOf, intervalOf, wrappedOn};
 
 fn interval_of(counts: Counts, knots: &[f64]) -> Interval
     requires { ⌜ refusalOfKnots (axisOf counts (now knots)) ≡ 0 ⌝ }

@@ -2,7 +2,7 @@
 use crate::Counts;
 use crate::Shape;
 ghost use mathlib.Core.Path.{_≡_};
-ghost use Rattle.surface.specs.Flags.{shapeOf};
+ghost use Rattle.domain.specs.Flags.{shapeOf};
 
 pub fn shape_of(du: usize, dv: usize, nu: usize, nv: usize, flags: u64) -> Shape
     ensures { λ r. ⌜ r ≡ shapeOf du dv nu nv flags ⌝ }

@@ -3,8 +3,8 @@ use native.Mathlib.Omega.{arith}
 use borrow.Author.Needs.{needs}
 use Rattle.spline.specs.Knots.{axis}
 use Rattle.spline.specs.KnotLaws.{Accepted, accepted}
-use Rattle.surface.proofs.intervals.interval_of.Statement.{statement}
-use Rattle.surface.proofs.intervals.interval_of.Tie as tie
+use Rattle.domain.proofs.intervals.interval_of.Statement.{statement}
+use Rattle.domain.proofs.intervals.interval_of.Tie as tie
 
 known : (c : tie.Start) → Accepted (axis (c .args .counts .degree) (c .args .counts .controls) (c .args .knots .now))
 known c = accepted _ (c .pre)

@@ -1,7 +1,7 @@
 -- Where a parameter that is brought into the domain of an axis lies, and when it is a NaN. Assumes nothing.
 use mathlib.Core.Path.{_≡_, refl, sym, ap, _∙_}
 use mathlib.Core.List.{List}
-use mathlib.Core.Bool.{Bool, true, false, not, cond, _&&_, true≢false, false≢true, and-eq-true-iff}
+use mathlib.Core.Bool.{Bool, true, false, not, cond, _&&_, or-true, true≢false, false≢true, and-eq-true-iff}
 use Prim.Native.Nat.{ℕ, _+_, _≤_}
 use native.Mathlib.Omega.{arith}
 use lib.Dec.{T}
@@ -16,13 +16,29 @@ use Rattle.float64.specs.Magnitude.{Positive, positive, is-positive}
 use Rattle.float64.specs.RemainderLaws.{rem-euclid-exact, rem-euclid-special}
 use Rattle.spline.specs.Knots.{Axis, knot, low, high, refusalOfKnots}
 use Rattle.spline.specs.KnotLaws.{accepted}
-use Rattle.surface.specs.declared.Counts.{Counts}
-use Rattle.surface.specs.Surface.{wrapped}
-use Rattle.surface.specs.Lent.{axisOf}
-use Rattle.surface.specs.Intervals.{intervalOf, wrappedOn}
-use Rattle.surface.specs.SurfaceLaws.{wrap-inside, wrap-outside}
+use Rattle.domain.specs.declared.Counts.{Counts}
+use Rattle.domain.specs.Intervals.{axisOf, intervalOf, wrapped, wrappedOn}
 
--- ---- its parts
+-- ---- a parameter on an axis, of a domain from lo to hi
+
+module _ (periodic : Bool) (lo hi t : Float) where
+  pub wrap-flagless : periodic ≡ false → wrapped periodic lo hi t ≡ t
+  unfolding wrapped
+  wrap-flagless n = simp n
+
+  pub wrap-not-finite : isFinite t ≡ false → wrapped periodic lo hi t ≡ t
+  unfolding wrapped
+  wrap-not-finite f = simp (f, or-true)
+
+  pub wrap-inside : le lo t ≡ true → le t hi ≡ true → wrapped periodic lo hi t ≡ t
+  unfolding wrapped
+  wrap-inside l h = simp (l, h, or-true)
+
+  pub wrap-outside : periodic ≡ true → isFinite t ≡ true → (le lo t && le t hi) ≡ false → wrapped periodic lo hi t ≡ clamp (lo ⊕ remEuclid (t ⊖ lo) (hi ⊖ lo)) lo hi
+  unfolding wrapped
+  wrap-outside p f o = simp (p, f, o)
+
+-- ---- the parts of the answer
 
 clamp-within : (x lo hi : Float) → le lo hi ≡ true → isNan x ≡ false → (le lo (clamp x lo hi) ≡ true) × (le (clamp x lo hi) hi ≡ true)
 unfolding clamp
