@@ -1,3 +1,1 @@
-pub mod Cursors
 pub mod Records
-pub mod Tallies

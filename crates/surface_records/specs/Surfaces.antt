@@ -1,8 +1,8 @@
 -- A surface that a record holds. Definitions only.
 use mathlib.Core.List.{List}
 use Prim.Native.Nat.{ℕ}
-use Rattle.replay.specs.declared.cursor.Cursor.{Cursor}
-use Rattle.replay.specs.Cursors.{Within, wordAt, numbersAt}
+use Rattle.cursor.specs.declared.Cursor.{Cursor}
+use Rattle.cursor.specs.Cursors.{Within, wordAt, numbersAt}
 use Rattle.domain.specs.Flags.{shapeOf}
 use Rattle.surface_records.specs.declared.Lent.{Lent}
 

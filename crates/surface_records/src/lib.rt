@@ -1,8 +1,8 @@
 // The part of a record that says which surface is lent.
+use cursor::Cursor;
+use cursor::Part;
 use domain::Shape;
 use domain::shape_of;
-use replay::Cursor;
-use replay::Part;
 ghost use mathlib.Core.Path.{_≡_};
 ghost use lib.ListN.{length};
 ghost use Rattle.surface_records.specs.Surfaces.{Inside, surfaceAt};

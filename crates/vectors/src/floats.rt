@@ -1,7 +1,7 @@
 // Rust's own methods of f64.
 use crate::kinds;
-use replay::Comparison;
-use replay::one_answer;
+use tally::Comparison;
+use tally::one_answer;
 use words::float;
 
 // Three arguments, those that the method doesn't take among them, then the answer.

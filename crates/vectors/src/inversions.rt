@@ -1,12 +1,12 @@
 // Inversions of a surface and of a plane, the shift by a period, and the derivative.
 use chart::Placing;
+use cursor::lend;
 use inverter::Components;
 use inverter::Frame;
-use replay::Comparison;
-use replay::lend;
-use replay::one_answer;
 use search_records::terms_at;
 use surface_records::Lent;
+use tally::Comparison;
+use tally::one_answer;
 use vector3::Vector3;
 use words::float;
 ghost use Prim.Native.Nat.{_+_, _≤_};

@@ -1,7 +1,7 @@
 // Job files, well-formed and damaged, with their printouts.
 use job::MOST_PRINTED;
-use replay::Comparison;
-use replay::one_answer;
+use tally::Comparison;
+use tally::one_answer;
 ghost use mathlib.Core.Path.{_≡_};
 ghost use Prim.Native.Nat.{_*_, _≤_};
 ghost use lib.ListN.{length};

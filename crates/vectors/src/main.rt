@@ -9,13 +9,14 @@ mod singular;
 mod splines;
 mod surfaces;
 
-use replay::Comparison;
 use replay::Input;
 use replay::MOST_RECORDS;
 use replay::MOST_WORDS;
-use replay::Pass;
-use replay::Tally;
-use replay::print_line;
+use tally::Comparison;
+use tally::Pass;
+use tally::Tally;
+use tally::print_line;
+use tally::print_unread;
 ghost use mathlib.Core.Path.{_≡_};
 ghost use Prim.Native.Nat.{_*_, _≤_};
 ghost use lib.ListN.{length};
@@ -43,7 +44,7 @@ fn main() {
     print_line(b"nurbs_singular", tally, kinds::NURBS_SINGULAR);
     print_line(b"row", tally, kinds::ROW);
     print_line(b"job", tally, kinds::JOB);
-    replay::print_unread(tally);
+    print_unread(tally);
 }
 
 fn replay_all() -> Tally {

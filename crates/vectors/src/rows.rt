@@ -1,13 +1,13 @@
 // Rows of marks, with the whole answer buffer after each.
 use answers::same_list;
 use chart::Terms;
-use replay::Comparison;
-use replay::Cursor;
-use replay::lend;
-use replay::one_answer;
+use cursor::Cursor;
+use cursor::lend;
 use row::RowEnd;
 use search_records::terms_at;
 use surface_records::Lent;
+use tally::Comparison;
+use tally::one_answer;
 ghost use mathlib.Core.Path.{_≡_};
 ghost use Prim.Native.Nat.{_≤_};
 ghost use lib.ListN.{length};

@@ -1,12 +1,12 @@
 // The edges of a surface that are one point.
 use answers::same_list;
+use cursor::lend;
 use edges::Edge;
 use edges::Edges;
 use edges::Singular;
-use replay::Comparison;
-use replay::lend;
-use replay::one_answer;
 use surface_records::Lent;
+use tally::Comparison;
+use tally::one_answer;
 use words::float;
 ghost use Prim.Native.Nat.{_≤_};
 ghost use lib.ListN.{length};

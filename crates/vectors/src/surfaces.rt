@@ -1,15 +1,15 @@
 // The wrap of a periodic axis, and the evaluation of a surface.
 use answers::is_answer;
 use answers::is_refusal;
+use cursor::Cursor;
+use cursor::lend;
 use domain::Interval;
 use domain::Shape;
-use replay::Comparison;
-use replay::Cursor;
-use replay::lend;
-use replay::one_answer;
 use surface::Checked;
 use surface::Evaluation;
 use surface_records::Lent;
+use tally::Comparison;
+use tally::one_answer;
 use words::float;
 ghost use mathlib.Core.Path.{_≡_};
 ghost use lib.ListN.{length};

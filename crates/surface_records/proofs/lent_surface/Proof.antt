@@ -2,10 +2,10 @@
 use mathlib.Core.Path.{_≡_}
 use mathlib.Core.List.{List}
 use Prim.Native.Nat.{ℕ}
-use Rattle.replay.specs.declared.cursor.Cursor.{Cursor}
-use Rattle.replay.specs.declared.cursor.Part.{Part}
-use Rattle.replay.specs.declared.cursor.Word.{Word}
-use Rattle.replay.specs.Cursors.{wordAt, numbersAt}
+use Rattle.cursor.specs.declared.Cursor.{Cursor}
+use Rattle.cursor.specs.declared.Part.{Part}
+use Rattle.cursor.specs.declared.Word.{Word}
+use Rattle.cursor.specs.Cursors.{wordAt, numbersAt}
 use Rattle.domain.specs.declared.Shape.{Shape}
 use Rattle.domain.specs.Flags.{shapeOf}
 use Rattle.surface_records.specs.declared.Lent.{Lent}
