@@ -25,8 +25,8 @@ use Rattle.edges.specs.declared.Edges.{Edges}
 use Rattle.edges.specs.Edges.{singular}
 use Rattle.job.specs.Printout.{mostPrinted, printout}
 use Rattle.job.specs.PrintLaws.{front}
-use Rattle.lent.specs.declared.answers.Answer.{Answer}
-use Rattle.lent.specs.Lent.{Evaluates, Places, Tells, Prints, jetInto, answerOfPlacing, answerOfComponents, takenOf, answerInto, firstOf, edgesInto, printoutInto}
+use Rattle.laid.specs.declared.answers.Answer.{Answer}
+use Rattle.laid.specs.Laid.{Evaluates, Places, Tells, Prints, jetInto, answerOfPlacing, answerOfComponents, takenOf, answerInto, firstOf, edgesInto, printoutInto}
 use Rattle.placing.specs.Boundary.{Rows, evaluatesIf, placesIf, rowsIf, tellsIf, printsIf}
 
 -- ---- an evaluation

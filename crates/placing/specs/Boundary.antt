@@ -15,8 +15,9 @@ use Rattle.row.specs.Row.{Rowed, rowInto, written, numberOf, indexOf, leftOf}
 use Rattle.edges.specs.declared.Edges.{Edges}
 use Rattle.edges.specs.Edges.{singular}
 use Rattle.job.specs.Printout.{printout}
-use Rattle.lent.specs.declared.answers.Answer.{Answer}
-use Rattle.lent.specs.Lent.{termsOf, roomy, fitsJet, fitsInversion, fitsRow, fitsDerivative, fitsEdges, fitsJob, Evaluates, jetInto, Places, answerOfPlacing, answerOfComponents, answerInto, firstOf, Tells, edgesInto, Prints, printoutInto}
+use Rattle.lent.specs.Lent.{termsOf, roomy, fitsJet, fitsInversion, fitsRow, fitsDerivative, fitsEdges, fitsJob}
+use Rattle.laid.specs.declared.answers.Answer.{Answer}
+use Rattle.laid.specs.Laid.{Evaluates, jetInto, Places, answerOfPlacing, answerOfComponents, answerInto, firstOf, Tells, edgesInto, Prints, printoutInto}
 
 abbrev pub vector : Float → Float → Float → Vector3
 vector x y z = record { x = x; y = y; z = z }

@@ -1,7 +1,7 @@
 use mathlib.Core.Path.{ap, _∙_}
 use borrow.Author.Tests.{not-true, not-false}
-use Rattle.lent.specs.Lent.{answerOfComponents}
 use Rattle.lent.specs.FitLaws.{derivative-room}
+use Rattle.laid.specs.Laid.{answerOfComponents}
 use Rattle.placing.specs.Boundary.{derives}
 use Rattle.placing.specs.TakenLaws.{derived-taken}
 use Rattle.placing.proofs.Steps.{derived-by, took-components, unfit, fits}

@@ -1,8 +1,8 @@
 use mathlib.Core.Path.{ap, _∙_}
 use borrow.Author.Tests.{not-true, not-false}
 use Rattle.inverter.specs.PlacingLaws.{placed-sound}
-use Rattle.lent.specs.Lent.{answerOfPlacing}
 use Rattle.lent.specs.FitLaws.{inversion-room}
+use Rattle.laid.specs.Laid.{answerOfPlacing}
 use Rattle.placing.specs.Boundary.{inverts}
 use Rattle.placing.proofs.Steps.{placed-by, took-placing, unfit, fits}
 use borrow.Author.Needs.{needs}

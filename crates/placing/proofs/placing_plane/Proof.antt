@@ -1,7 +1,7 @@
 use mathlib.Core.Path.{ap, _∙_}
 use borrow.Author.Tests.{not-true, not-false}
-use Rattle.lent.specs.Lent.{answerOfComponents}
 use Rattle.lent.specs.FitLaws.{pair-room}
+use Rattle.laid.specs.Laid.{answerOfComponents}
 use Rattle.placing.specs.Boundary.{locates}
 use Rattle.placing.specs.TakenLaws.{placed-on-taken}
 use Rattle.placing.proofs.Steps.{took-components, unfit, fits}

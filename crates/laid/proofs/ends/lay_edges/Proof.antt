@@ -1,7 +1,7 @@
-use Rattle.lent.proofs.EndSteps.{told-refusal, told-found}
+use Rattle.laid.proofs.EndSteps.{told-refusal, told-found}
 use borrow.Author.Needs.{needs}
-use Rattle.lent.proofs.ends.lay_edges.Statement.{statement}
-use Rattle.lent.proofs.ends.lay_edges.Tie as tie
+use Rattle.laid.proofs.ends.lay_edges.Statement.{statement}
+use Rattle.laid.proofs.ends.lay_edges.Tie as tie
 
 returns : tie.Need-returns
 returns c = told-refusal _ _ (c .before .found .given .1)

@@ -14,7 +14,7 @@ use Rattle.edges.specs.declared.Edge.{Edge}
 use Rattle.edges.specs.declared.Edge.the-variants.{Open, Collapsed}
 use Rattle.edges.specs.declared.Edges.{Edges}
 use Rattle.edges.specs.declared.Edges.the-variants as Edges
-use Rattle.lent.specs.Lent.{Tells, firstOf, flagOf, edgeAt, edgesInto}
+use Rattle.laid.specs.Laid.{Tells, firstOf, flagOf, edgeAt, edgesInto}
 
 -- ---- a row's end
 

@@ -1,8 +1,8 @@
 use denote.Ref.{now}
-use Rattle.lent.proofs.EndSteps.{open-edge, in-one, in-two, in-three, in-four, five}
+use Rattle.laid.proofs.EndSteps.{open-edge, in-one, in-two, in-three, in-four, five}
 use borrow.Author.Needs.{needs}
-use Rattle.lent.proofs.ends.lay_edge.Statement.{statement}
-use Rattle.lent.proofs.ends.lay_edge.Tie as tie
+use Rattle.laid.proofs.ends.lay_edge.Statement.{statement}
+use Rattle.laid.proofs.ends.lay_edge.Tie as tie
 
 returns : tie.Need-returns
 returns c = open-edge _ _ (c .enum-told .given .1)

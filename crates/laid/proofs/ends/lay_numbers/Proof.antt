@@ -1,7 +1,7 @@
-use Rattle.lent.proofs.EndSteps.{four-edges}
+use Rattle.laid.proofs.EndSteps.{four-edges}
 use borrow.Author.Needs.{needs}
-use Rattle.lent.proofs.ends.lay_numbers.Statement.{statement}
-use Rattle.lent.proofs.ends.lay_numbers.Tie as tie
+use Rattle.laid.proofs.ends.lay_numbers.Statement.{statement}
+use Rattle.laid.proofs.ends.lay_numbers.Tie as tie
 
 returns : tie.Need-returns
 returns c =

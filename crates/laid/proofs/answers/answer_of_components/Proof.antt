@@ -1,7 +1,7 @@
-use Rattle.lent.specs.Lent.{answerOfComponents}
+use Rattle.laid.specs.Laid.{answerOfComponents}
 use borrow.Author.Needs.{needs}
-use Rattle.lent.proofs.answers.answer_of_components.Statement.{statement}
-use Rattle.lent.proofs.answers.answer_of_components.Tie as tie
+use Rattle.laid.proofs.answers.answer_of_components.Statement.{statement}
+use Rattle.laid.proofs.answers.answer_of_components.Tie as tie
 
 returns : tie.Need-returns
 unfolding answerOfComponents

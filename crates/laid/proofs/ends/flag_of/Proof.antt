@@ -1,7 +1,7 @@
-use Rattle.lent.specs.Lent.{flagOf}
+use Rattle.laid.specs.Laid.{flagOf}
 use borrow.Author.Needs.{needs}
-use Rattle.lent.proofs.ends.flag_of.Statement.{statement}
-use Rattle.lent.proofs.ends.flag_of.Tie as tie
+use Rattle.laid.proofs.ends.flag_of.Statement.{statement}
+use Rattle.laid.proofs.ends.flag_of.Tie as tie
 
 returns : tie.Need-returns
 unfolding flagOf

@@ -1,7 +1,7 @@
-use Rattle.lent.specs.Lent.{answerOfPlacing}
+use Rattle.laid.specs.Laid.{answerOfPlacing}
 use borrow.Author.Needs.{needs}
-use Rattle.lent.proofs.answers.answer_of_placing.Statement.{statement}
-use Rattle.lent.proofs.answers.answer_of_placing.Tie as tie
+use Rattle.laid.proofs.answers.answer_of_placing.Statement.{statement}
+use Rattle.laid.proofs.answers.answer_of_placing.Tie as tie
 
 returns : tie.Need-returns
 unfolding answerOfPlacing

@@ -1,7 +1,7 @@
-use Rattle.lent.proofs.Steps.{laid-refusal, laid-pair}
+use Rattle.laid.proofs.Steps.{laid-refusal, laid-pair}
 use borrow.Author.Needs.{needs}
-use Rattle.lent.proofs.answers.lay_answer.Statement.{statement}
-use Rattle.lent.proofs.answers.lay_answer.Tie as tie
+use Rattle.laid.proofs.answers.lay_answer.Statement.{statement}
+use Rattle.laid.proofs.answers.lay_answer.Tie as tie
 
 sub-budget : tie.Need-sub-budget
 sub-budget c = rw (c .before .before .answer .given .1) at (c .before .before .before .before .pre .2)

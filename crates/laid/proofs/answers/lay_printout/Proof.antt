@@ -1,7 +1,7 @@
-use Rattle.lent.proofs.Steps.{laid-text}
+use Rattle.laid.proofs.Steps.{laid-text}
 use borrow.Author.Needs.{needs}
-use Rattle.lent.proofs.answers.lay_printout.Statement.{statement}
-use Rattle.lent.proofs.answers.lay_printout.Tie as tie
+use Rattle.laid.proofs.answers.lay_printout.Statement.{statement}
+use Rattle.laid.proofs.answers.lay_printout.Tie as tie
 
 returns : tie.Need-returns
 returns c =

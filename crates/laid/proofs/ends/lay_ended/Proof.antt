@@ -1,8 +1,8 @@
 use denote.Ref.{now}
-use Rattle.lent.proofs.EndSteps.{ended-placed, ended-refused}
+use Rattle.laid.proofs.EndSteps.{ended-placed, ended-refused}
 use borrow.Author.Needs.{needs}
-use Rattle.lent.proofs.ends.lay_ended.Statement.{statement}
-use Rattle.lent.proofs.ends.lay_ended.Tie as tie
+use Rattle.laid.proofs.ends.lay_ended.Statement.{statement}
+use Rattle.laid.proofs.ends.lay_ended.Tie as tie
 
 returns : tie.Need-returns
 returns c = let at = c .before .before .before in ended-placed (now (at .args .budget)) (now (at .args .index)) (at .pre .0) (at .pre .1) (c .before .ended .given .1)

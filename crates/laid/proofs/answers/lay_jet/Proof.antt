@@ -1,9 +1,9 @@
 use denote.Ref.{now}
 use native.Mathlib.Omega.{arith}
-use Rattle.lent.proofs.Steps.{ninth, jet-refused, jet-found}
+use Rattle.laid.proofs.Steps.{ninth, jet-refused, jet-found}
 use borrow.Author.Needs.{needs}
-use Rattle.lent.proofs.answers.lay_jet.Statement.{statement}
-use Rattle.lent.proofs.answers.lay_jet.Tie as tie
+use Rattle.laid.proofs.answers.lay_jet.Statement.{statement}
+use Rattle.laid.proofs.answers.lay_jet.Tie as tie
 
 slice-write-jet-2 : tie.Need-slice-write-jet-2
 slice-write-jet-2 c = let at = c .before .before .before in ninth 1 (now (at .args .jet)) (c .before .found2 .given .0 .0) (omega arith) (at .pre)

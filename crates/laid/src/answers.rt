@@ -6,7 +6,7 @@ use surface::Evaluation;
 ghost use mathlib.Core.Path.{_≡_};
 ghost use Prim.Native.Nat.{_≤_};
 ghost use lib.ListN.{length, getD};
-ghost use Rattle.lent.specs.Lent.{jetInto, answerOfPlacing, answerOfComponents, takenOf, answerInto, printoutInto};
+ghost use Rattle.laid.specs.Laid.{jetInto, answerOfPlacing, answerOfComponents, takenOf, answerInto, printoutInto};
 
 // Two numbers and the units taken; or the number of a refusal and the units taken.
 pub enum Answer {

@@ -7,7 +7,7 @@ ghost use mathlib.Core.List.{_∷_};
 ghost use Prim.Native.Nat.{_+_, _≤_};
 ghost use lib.ListN.{length, drop};
 ghost use Rattle.row.specs.Row.{numberOf, indexOf, leftOf};
-ghost use Rattle.lent.specs.Lent.{firstOf, flagOf, edgeAt, edgesInto};
+ghost use Rattle.laid.specs.Laid.{firstOf, flagOf, edgeAt, edgesInto};
 
 pub fn lay_ended(ended: RowEnd, budget: &mut [u64], index: &mut [u64]) -> u64
     requires { ⌜ (1 ≤ length (now budget)) × (1 ≤ length (now index)) ⌝ }

@@ -1,8 +1,8 @@
 use denote.Ref.{now}
-use Rattle.lent.proofs.EndSteps.{second, third, four-flags}
+use Rattle.laid.proofs.EndSteps.{second, third, four-flags}
 use borrow.Author.Needs.{needs}
-use Rattle.lent.proofs.ends.lay_flags.Statement.{statement}
-use Rattle.lent.proofs.ends.lay_flags.Tie as tie
+use Rattle.laid.proofs.ends.lay_flags.Statement.{statement}
+use Rattle.laid.proofs.ends.lay_flags.Tie as tie
 
 slice-write-collapsed-2 : tie.Need-slice-write-collapsed-2
 slice-write-collapsed-2 c = let at = c .before .before .before in second (now (at .args .collapsed)) (at .pre) (c .before .flag-of .result)

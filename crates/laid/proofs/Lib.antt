@@ -1,0 +1,2 @@
+pub mod EndSteps
+pub mod Steps
