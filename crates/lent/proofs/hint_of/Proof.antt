@@ -1,7 +1,7 @@
 use Rattle.lent.proofs.Steps.{no-hint, a-hint}
 use borrow.Author.Needs.{needs}
-use Rattle.lent.proofs.arguments.hint_of.Statement.{statement}
-use Rattle.lent.proofs.arguments.hint_of.Tie as tie
+use Rattle.lent.proofs.hint_of.Statement.{statement}
+use Rattle.lent.proofs.hint_of.Tie as tie
 
 returns : tie.Need-returns
 returns c = no-hint _ (c .if1 .taken)

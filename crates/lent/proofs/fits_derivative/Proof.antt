@@ -1,8 +1,8 @@
 use Rattle.lent.specs.Lent.{fitsDerivative}
 use Rattle.lent.proofs.Steps.{both}
 use borrow.Author.Needs.{needs}
-use Rattle.lent.proofs.arguments.fits_derivative.Statement.{statement}
-use Rattle.lent.proofs.arguments.fits_derivative.Tie as tie
+use Rattle.lent.proofs.fits_derivative.Statement.{statement}
+use Rattle.lent.proofs.fits_derivative.Tie as tie
 
 returns : tie.Need-returns
 unfolding fitsDerivative

@@ -1,7 +1,7 @@
 use mathlib.Core.Path.{refl}
 use Rattle.lent.specs.Lent.{soundFlags}
-use Rattle.lent.proofs.arguments.sound_flags.Statement.{statement}
-use Rattle.lent.proofs.arguments.sound_flags.Tie as tie
+use Rattle.lent.proofs.sound_flags.Statement.{statement}
+use Rattle.lent.proofs.sound_flags.Tie as tie
 
 returns : tie.Need-returns
 unfolding soundFlags

@@ -1,7 +1,7 @@
 use mathlib.Core.Path.{refl}
 use Rattle.lent.specs.Lent.{roomyRow}
-use Rattle.lent.proofs.arguments.roomy_row.Statement.{statement}
-use Rattle.lent.proofs.arguments.roomy_row.Tie as tie
+use Rattle.lent.proofs.roomy_row.Statement.{statement}
+use Rattle.lent.proofs.roomy_row.Tie as tie
 
 returns : tie.Need-returns
 unfolding roomyRow

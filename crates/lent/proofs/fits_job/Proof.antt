@@ -1,7 +1,7 @@
 use mathlib.Core.Path.{refl}
 use Rattle.lent.specs.Lent.{fitsJob}
-use Rattle.lent.proofs.arguments.fits_job.Statement.{statement}
-use Rattle.lent.proofs.arguments.fits_job.Tie as tie
+use Rattle.lent.proofs.fits_job.Statement.{statement}
+use Rattle.lent.proofs.fits_job.Tie as tie
 
 returns : tie.Need-returns
 unfolding fitsJob

@@ -1,8 +1,8 @@
 use Rattle.lent.specs.Lent.{fitsRow}
 use Rattle.lent.proofs.Steps.{both}
 use borrow.Author.Needs.{needs}
-use Rattle.lent.proofs.arguments.fits_row.Statement.{statement}
-use Rattle.lent.proofs.arguments.fits_row.Tie as tie
+use Rattle.lent.proofs.fits_row.Statement.{statement}
+use Rattle.lent.proofs.fits_row.Tie as tie
 
 returns : tie.Need-returns
 unfolding fitsRow

@@ -1,8 +1,8 @@
 use Rattle.lent.specs.Lent.{fitsEdges}
 use Rattle.lent.proofs.Steps.{both}
 use borrow.Author.Needs.{needs}
-use Rattle.lent.proofs.arguments.fits_edges.Statement.{statement}
-use Rattle.lent.proofs.arguments.fits_edges.Tie as tie
+use Rattle.lent.proofs.fits_edges.Statement.{statement}
+use Rattle.lent.proofs.fits_edges.Tie as tie
 
 returns : tie.Need-returns
 unfolding fitsEdges

@@ -1,7 +1,7 @@
 use Rattle.lent.proofs.Steps.{no-period, a-period}
 use borrow.Author.Needs.{needs}
-use Rattle.lent.proofs.arguments.period_of.Statement.{statement}
-use Rattle.lent.proofs.arguments.period_of.Tie as tie
+use Rattle.lent.proofs.period_of.Statement.{statement}
+use Rattle.lent.proofs.period_of.Tie as tie
 
 returns : tie.Need-returns
 returns c = no-period _ (c .if1 .taken)

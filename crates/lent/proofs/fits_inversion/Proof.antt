@@ -1,8 +1,8 @@
 use Rattle.lent.specs.Lent.{fitsInversion}
 use Rattle.lent.proofs.Steps.{both}
 use borrow.Author.Needs.{needs}
-use Rattle.lent.proofs.arguments.fits_inversion.Statement.{statement}
-use Rattle.lent.proofs.arguments.fits_inversion.Tie as tie
+use Rattle.lent.proofs.fits_inversion.Statement.{statement}
+use Rattle.lent.proofs.fits_inversion.Tie as tie
 
 returns : tie.Need-returns
 unfolding fitsInversion

@@ -1,7 +1,7 @@
 use Rattle.lent.specs.Lent.{termsOf}
 use borrow.Author.Needs.{needs}
-use Rattle.lent.proofs.arguments.terms_of.Statement.{statement}
-use Rattle.lent.proofs.arguments.terms_of.Tie as tie
+use Rattle.lent.proofs.terms_of.Statement.{statement}
+use Rattle.lent.proofs.terms_of.Tie as tie
 
 returns : tie.Need-returns
 unfolding termsOf

@@ -1,7 +1,7 @@
 use mathlib.Core.Path.{refl}
 use Rattle.lent.specs.Lent.{soundOptions}
-use Rattle.lent.proofs.arguments.sound_options.Statement.{statement}
-use Rattle.lent.proofs.arguments.sound_options.Tie as tie
+use Rattle.lent.proofs.sound_options.Statement.{statement}
+use Rattle.lent.proofs.sound_options.Tie as tie
 
 returns : tie.Need-returns
 unfolding soundOptions

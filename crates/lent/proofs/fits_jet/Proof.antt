@@ -2,8 +2,8 @@ use mathlib.Core.Path.{refl}
 use Rattle.lent.specs.Lent.{fitsJet}
 use Rattle.lent.proofs.Steps.{both}
 use borrow.Author.Needs.{needs}
-use Rattle.lent.proofs.arguments.fits_jet.Statement.{statement}
-use Rattle.lent.proofs.arguments.fits_jet.Tie as tie
+use Rattle.lent.proofs.fits_jet.Statement.{statement}
+use Rattle.lent.proofs.fits_jet.Tie as tie
 
 returns : tie.Need-returns
 unfolding fitsJet

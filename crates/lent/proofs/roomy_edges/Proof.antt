@@ -1,7 +1,7 @@
 use mathlib.Core.Path.{refl}
 use Rattle.lent.specs.Lent.{roomyEdges}
-use Rattle.lent.proofs.arguments.roomy_edges.Statement.{statement}
-use Rattle.lent.proofs.arguments.roomy_edges.Tie as tie
+use Rattle.lent.proofs.roomy_edges.Statement.{statement}
+use Rattle.lent.proofs.roomy_edges.Tie as tie
 
 returns : tie.Need-returns
 unfolding roomyEdges
