@@ -1,4 +1,4 @@
-// A NURBS surface: a record of counts and flags by value, beside the knots, controls and weights that a caller lends.
+// A NURBS surface: its shape by value, beside the knots, controls and weights that a caller lends.
 // Control (i, j) stands at i * v.controls + j, three coordinates each.
 mod checks;
 mod jets;
