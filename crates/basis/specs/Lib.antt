@@ -5,7 +5,6 @@ pub mod Compute
 pub mod Signs
 pub mod BasisLaws
 pub mod Magnitude
-pub mod BoundLaws
 pub mod BookLaws
 pub mod NonnegLaws
 pub mod Examples

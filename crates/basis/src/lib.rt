@@ -1,8 +1,6 @@
 // The functions of a B-spline basis that are not zero at a parameter, with their first and second derivatives.
-mod bound;
 mod values;
 
-pub use bound::bounded;
 use float64::is_finite;
 use spline::KnotSide;
 use spline::Snapped;

@@ -11,7 +11,7 @@ use Rattle.patch.specs.declared.Jet.{Jet}
 use Rattle.patch.specs.declared.Evaluated.the-variants.{Found}
 use Rattle.patch.specs.Patch.{jetOfSums}
 use Rattle.surface.specs.Surface.{Surface, sampleU, sampleV, evaluateBy}
-use Rattle.surface.specs.Net.{Patch, WeighedNet, sumBy}
+use Rattle.net.specs.Net.{Patch, WeighedNet, sumBy}
 use Rattle.scaled.specs.declared.Accepted.{Accepted}
 use Rattle.scaled.specs.Accepted.{Accepts, not-refused, largest-is}
 use Rattle.scaled.specs.Magnitude.{leastWeight}

@@ -18,13 +18,13 @@ use Rattle.patch.specs.declared.Sums.{Sums}
 use Rattle.patch.specs.declared.Evaluated.the-variants.{Found}
 use Rattle.patch.specs.Patch.{jetOfSums}
 use Rattle.domain.specs.declared.Counts.{Counts}
-use Rattle.surface.specs.Sums.{rowsOf, columnsOf}
+use Rattle.net.specs.Sums.{rowsOf, columnsOf}
 use Rattle.surface.specs.Surface.{Surface, sampleU, sampleV, evaluateBy, refusalOfSurface, scaleOf, functionAt, sums}
 use Rattle.surface.specs.SurfaceLaws.{accepted-surface}
 use Rattle.domain.specs.Intervals.{axisOf}
 use Rattle.surface.specs.Lent.{sampleOn}
 use Rattle.surface.specs.PatchLaws.{patch-below}
-use Rattle.surface.specs.Net.{Patch, WeighedNet, numberAt, sumBy}
+use Rattle.net.specs.Net.{Patch, WeighedNet, numberAt, sumBy}
 use Rattle.surface.specs.SumLaws.{value-alone, u-alone, v-alone}
 use Rattle.scaled.specs.Magnitude.{Bounded, leastWeight, bounded-found}
 

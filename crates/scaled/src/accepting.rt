@@ -1,7 +1,7 @@
 // The checks of a surface, and whether the sizes of its numbers rule an overflow out.
 use crate::Acceptance;
 use crate::Accepted;
-use basis::bounded;
+use bound::bounded;
 use domain::Shape;
 use domain::domain_of;
 use surface::Checked;

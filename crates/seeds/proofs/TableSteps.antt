@@ -25,7 +25,7 @@ use Rattle.domain.specs.declared.Counts.{Counts}
 use Rattle.surface.specs.Surface.{Surface, surface, evaluateBy}
 use Rattle.domain.specs.Intervals.{axisOf}
 use Rattle.surface.specs.Lent.{sampleOn}
-use Rattle.surface.specs.Net.{WeighedNet, sumBy}
+use Rattle.net.specs.Net.{WeighedNet, sumBy}
 use Rattle.scaled.specs.declared.Accepted.{Accepted}
 use Rattle.scaled.specs.Accepted.{not-refused, largest-is}
 use Rattle.scaled.specs.Magnitude.{leastWeight}

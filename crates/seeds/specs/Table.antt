@@ -11,7 +11,7 @@ use Rattle.patch.specs.declared.Evaluated.the-variants as Evaluated
 use Rattle.domain.specs.declared.Counts.{Counts}
 use Rattle.surface.specs.Surface.{Surface}
 use Rattle.surface.specs.Lent.{sampleOn}
-use Rattle.surface.specs.Net.{Patch, WeighedNet}
+use Rattle.net.specs.Net.{Patch, WeighedNet}
 use Rattle.scaled.specs.declared.Accepted.{Accepted}
 use Rattle.scaled.specs.Accepted.{Accepts}
 use Rattle.seeds.specs.declared.Node.{Node}

@@ -1,3 +1,2 @@
 pub mod CheckSteps
-pub mod SumSteps
 pub mod EvaluateSteps

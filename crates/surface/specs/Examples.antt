@@ -16,7 +16,7 @@ use Rattle.domain.specs.declared.Counts.{Counts}
 use Rattle.surface.specs.declared.Checked.{Checked}
 use Rattle.surface.specs.declared.Checked.the-variants.{Refusal}
 use Rattle.surface.specs.declared.Evaluation.the-variants.{Found}
-use Rattle.surface.specs.Sums.{weightBy, sumOver}
+use Rattle.net.specs.Sums.{weightBy, sumOver}
 use Rattle.surface.specs.Surface.{Surface, surface, functionAt, checked, evaluated}
 use Rattle.surface.specs.Compute.{compute}
 

@@ -1,10 +1,8 @@
-pub mod Sums
 pub mod Surface
 pub mod Compute
 pub mod Refusals
 pub mod SurfaceLaws
 pub mod Lent
-pub mod Net
 pub mod SumLaws
 pub mod PatchLaws
 pub mod EvaluateLaws

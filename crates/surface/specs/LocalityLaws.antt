@@ -7,9 +7,9 @@ use lib.Ieee.{Float, nan}
 use Rattle.basis.specs.Basis.{Three, Sample, refused, sample}
 use Rattle.patch.specs.Patch.{emptySums}
 use Rattle.domain.specs.declared.Shape.{Shape}
-use Rattle.surface.specs.Sums.{rowsOf, columnsOf, controlAt, numberIn, heaviest}
+use Rattle.net.specs.Sums.{rowsOf, columnsOf, controlAt, numberIn, heaviest}
 use Rattle.surface.specs.Surface.{Surface, surface, refusalOfSurface, scaleOf, sums, blended, sampleU, sampleV, evaluateBy, evaluatedBy, evaluated}
-use Rattle.surface.specs.SumLaws.{over-part}
+use Rattle.net.specs.NetLaws.{over-part}
 use Rattle.surface.specs.NumberLaws.{check-scale}
 
 -- Two lists of controls and two of weights agree on the patch that starts at a row and a column: on degree + 1 rows and columns of the net.

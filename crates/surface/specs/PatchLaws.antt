@@ -19,7 +19,7 @@ use Rattle.patch.specs.declared.Evaluated.the-variants.{Refused}
 use Rattle.patch.specs.Patch.{rational}
 use Rattle.surface.specs.Surface.{Surface, functionAt, axisU, axisV, blended, sampleU, sampleV, refusalOfSurface, evaluateBy}
 use Rattle.surface.specs.SurfaceLaws.{accepted-surface}
-use Rattle.surface.specs.Net.{Patch, WeighedNet, threeAt, sumsBy}
+use Rattle.net.specs.Net.{Patch, WeighedNet, threeAt, sumsBy}
 use Rattle.surface.specs.SumLaws.{all-six}
 
 -- function number n of those that stand in rows

@@ -22,7 +22,7 @@ use Rattle.surface.specs.declared.Checked.{Checked}
 use Rattle.surface.specs.declared.Checked.the-variants as Check
 use Rattle.surface.specs.declared.Evaluation.{Evaluation}
 use Rattle.surface.specs.declared.Evaluation.the-variants.{Found, Refusal}
-use Rattle.surface.specs.Sums.{heaviest, weightBy, sumOver}
+use Rattle.net.specs.Sums.{heaviest, weightBy, sumOver}
 
 pub record Surface : Type 0 where
   pub shape : Shape

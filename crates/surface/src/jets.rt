@@ -2,13 +2,13 @@
 use crate::Checked;
 use crate::Evaluation;
 use crate::checks::check;
-use crate::sums::sums_over;
-use crate::sums::weigh;
 use basis::Place;
 use basis::tabulate;
 use domain::Counts;
 use domain::Shape;
 use domain::wrap_on;
+use net::sums_over;
+use net::weigh;
 use patch::Evaluated;
 use patch::rational;
 use spline::KnotSide;

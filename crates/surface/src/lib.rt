@@ -2,14 +2,11 @@
 // Control (i, j) stands at i * v.controls + j, three coordinates each.
 mod checks;
 mod jets;
-mod sums;
 
 pub use checks::check;
 pub use jets::evaluate;
 pub use jets::surface_jet;
 use patch::Jet;
-pub use sums::sum_over;
-pub use sums::weigh;
 
 // What the checks answer: the largest weight, by which all are to be divided, or the number of the refusal.
 pub enum Checked {

@@ -6,7 +6,7 @@ use borrow.Author.Tests.{not-false}
 use Rattle.surface.specs.Surface.{Surface, surface}
 use Rattle.surface.specs.SurfaceLaws.{accepted-surface}
 use Rattle.surface.specs.PatchLaws.{weights-lent, controls-lent}
-use Rattle.surface.specs.Net.{Patch}
+use Rattle.net.specs.Net.{Patch}
 use Rattle.scaled.specs.Accepted.{not-refused}
 use Rattle.scaled.proofs.FirstOrderSteps.{patch-there, quick}
 use borrow.Author.Needs.{needs}

@@ -2,7 +2,7 @@
 use borrow.Author.Tests.{not-true, not-false}
 use Rattle.surface.specs.Surface.{Surface, surface}
 use Rattle.surface.specs.SurfaceLaws.{accepted-surface}
-use Rattle.surface.specs.Net.{Patch}
+use Rattle.net.specs.Net.{Patch}
 use Rattle.surface.specs.PatchLaws.{weights-lent, controls-lent, patch-at, both, not-both}
 use borrow.Author.Needs.{needs}
 use Rattle.surface.proofs.jets.surface_jet.Statement.{statement}

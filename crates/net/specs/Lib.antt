@@ -1,0 +1,4 @@
+pub mod Sums
+pub mod Net
+pub mod Compute
+pub mod NetLaws
