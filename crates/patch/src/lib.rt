@@ -113,7 +113,7 @@ pub fn point(s: Sum) -> Vector3
 }
 
 // The first derivative from its own sum, with the point p. Here and below w is the weight sum.
-fn first(w: f64, s: Sum, p: Vector3) -> Vector3
+pub fn first(w: f64, s: Sum, p: Vector3) -> Vector3
     ensures { λ r. ⌜ r ≡ Patch.firstOf w s p ⌝ }
 {
     Vector3 {
@@ -124,7 +124,7 @@ fn first(w: f64, s: Sum, p: Vector3) -> Vector3
 }
 
 // The second derivative along one axis, of which w1 and a are the first derivatives of the weight and of the point.
-fn second(w: f64, s: Sum, w1: f64, a: Vector3, p: Vector3) -> Vector3
+pub fn second(w: f64, s: Sum, w1: f64, a: Vector3, p: Vector3) -> Vector3
     ensures { λ r. ⌜ r ≡ Patch.secondOf w s w1 a p ⌝ }
 {
     Vector3 {
@@ -144,7 +144,7 @@ fn mixed(w: f64, s: Sum, w1: f64, a: Vector3, w2: f64, b: Vector3, p: Vector3) -
     }
 }
 
-fn finite_sum(s: Sum) -> bool
+pub fn finite_sum(s: Sum) -> bool
     ensures { λ r. ⌜ r ≡ Patch.finiteSum s ⌝ }
 {
     is_finite(s.w) & is_finite(s.x) & is_finite(s.y) & is_finite(s.z)
