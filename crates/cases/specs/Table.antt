@@ -21,6 +21,8 @@ use Rattle.price.specs.Price.{Priced, refused, answered, price, after, mapped, 
 use Rattle.domain.specs.declared.Counts.{Counts}
 use Rattle.domain.specs.Intervals.{wrapped}
 use Rattle.surface.specs.Surface.{Surface, surface, axisU, axisV, scaleOf, refusalOfSurface, evaluateBy, domainOf}
+use Rattle.newton.specs.declared.Ending.{Ending}
+use Rattle.newton.specs.declared.Ending.the-variants.{Unchanged, SecondSingular}
 use Rattle.newton.specs.declared.End.{End}
 use Rattle.newton.specs.Run.{run}
 use Rattle.grid.specs.Axis.{valuesOf}
@@ -30,9 +32,10 @@ use Rattle.shortlist.specs.Compute as Shortlist
 use Rattle.seeds.specs.Grid.{survey}
 use Rattle.inversion.specs.declared.Hint.{Hint}
 use Rattle.inversion.specs.declared.Hint.the-variants.{Nothing, At}
+use Rattle.inversion.specs.declared.Choice.{Choice}
 use Rattle.inversion.specs.declared.Best.{Best}
 use Rattle.inversion.specs.declared.Best.the-variants as Best
-use Rattle.inversion.specs.Inversion.{led, choose, runs, searched, explored, unlessClose, hinted, plainSteps, inversionBy}
+use Rattle.inversion.specs.Inversion.{numbered, led, choose, runs, searched, explored, unlessClose, hinted, plainSteps, inversionBy}
 use Rattle.chart.specs.declared.Period.the-variants.{Free}
 use Rattle.chart.specs.declared.Terms.{Terms}
 use Rattle.chart.specs.declared.Placing.{Placing}
@@ -148,12 +151,20 @@ dot-mark = at 3· 4· 0·
 abbrev terms : Hint → Float → Terms
 terms hint tolerance = record { hint = hint; tolerance = tolerance; u = Free; v = Free }
 
-abbrev end : Float → Float → Float → End
-end u v distance = record { u = u; v = v; distance = distance }
+abbrev end : Float → Float → Float → Ending → End
+end u v distance how = record { at = record { u = u; v = v; distance = distance }; ending = how }
 
--- the pair of the Square's point that is nearest to its mark, with its distance
+-- the pair of the Square's point that is nearest to its mark, with its distance, where a run ends unchanged
 abbrev foot : End
-foot = end ¼· ½· ¾·
+foot = end ¼· ½· ¾· Unchanged
+
+-- where the Dot's run ends, singular again after a nudge
+abbrev stop : End
+stop = end inside inside 5· SecondSingular
+
+-- an end, and where its run came from: 0 for the hint, or the start's place
+abbrev from : ℕ → End → Choice
+from origin e = record { end = e; origin = origin }
 
 abbrev collapsed : ℕ → Float → Vector3 → Float → Edge
 collapsed k value point side = Collapsed (record { k = k; value = value; point = point; side = side })
@@ -229,13 +240,13 @@ abbrev pub square-runs : Case
 square-runs = runs-end square mark six (answered (replicate 6 foot) 11)
 
 abbrev pub square-free : Case
-square-free = inverts square mark Nothing ½· 92 (Placing.Pair foot 92) 0
+square-free = inverts square mark Nothing ½· 92 (Placing.Pair (from 1 foot) 92) 0
 
 abbrev pub square-short : Case
 square-short = inverts square mark Nothing ½· 91 (Placing.Refusal 8 91) 8
 
 abbrev pub square-far : Case
-square-far = inverts square mark (At ¼· ½·) ½· 94 (Placing.Pair foot 94) 0
+square-far = inverts square mark (At ¼· ½·) ½· 94 (Placing.Pair (from 0 foot) 94) 0
 
 abbrev pub dot-distances : Case
 dot-distances = distances dot dot-mark (answered (replicate 81 5·) 81)
@@ -244,7 +255,7 @@ abbrev pub dot-starts : Case
 dot-starts = starts dot dot-mark (answered (startAt 5· 0· 0· ∷ []) 81)
 
 abbrev pub dot-free : Case
-dot-free = inverts dot dot-mark Nothing 0· 83 (Placing.Pair (end inside inside 5·) 83) 0
+dot-free = inverts dot dot-mark Nothing 0· 83 (Placing.Pair (from 1 stop) 83) 0
 
 abbrev pub square-edges : Case
 square-edges = collapses square ½· (Found (collapsed 0 0· (at ½· 0· 0·) 1·) (collapsed 0 1· (at ½· 1· 0·) (neg 1·)) (collapsed 1 0· (at 0· ½· 0·) 1·) (collapsed 1 1· (at 1· ½· 0·) (neg 1·)))
@@ -272,18 +283,18 @@ rows =
     ∷ wraps (fin false 5 (negsuc 1)) ¼·
     ∷ wraps (neg ¼·) ¾·
     ∷ wraps 1· 1·
-    -- "Square, mark (0.25, 0.5, 0.75), no hint: pair (0.25, 0.5), price 92 (81 for the grid, 11 for six runs)"
+    -- "Square, mark (0.25, 0.5, 0.75), no hint: pair (0.25, 0.5), price 92 (81 for the grid, 11 for six runs)"; the run from the first start, which ends unchanged
     ∷ square-starts
     ∷ square-runs
     ∷ square-free
     -- "Budget 91: refusal 8, 0 left."
     ∷ square-short
     -- "With hint (0.25, 0.5): tolerance 0.75, price 1"
-    ∷ inverts square mark (At ¼· ½·) ¾· 1 (Placing.Pair foot 1) 0
+    ∷ inverts square mark (At ¼· ½·) ¾· 1 (Placing.Pair (from 0 foot) 1) 0
     -- "tolerance 0.5, price 94"
     ∷ square-far
     -- "Hint (0.5, 0.5), tolerance 0.75: price 2"
-    ∷ inverts square mark (At ½· ½·) ¾· 2 (Placing.Pair foot 2) 0
+    ∷ inverts square mark (At ½· ½·) ¾· 2 (Placing.Pair (from 0 foot) 2) 0
     -- "Dot, mark (3, 4, 0), no hint: all distances 5, one start, pair (0.0000005, 0.0000005), price 83"
     ∷ dot-distances
     ∷ dot-starts
@@ -314,21 +325,21 @@ rows =
 -- ---- an inversion by its starts and their runs, so that a grid is evaluated in one lemma and not again
 
 module _ (s : Surface) (m : Vector3) (t : Float) (ss : List Start) (n : ℕ) (es : List End) (j : ℕ) (h : Holds (starts s m (answered ss n))) (r : Holds (runs-end s m ss (answered es j))) where
-  abbrev chosen : Best → ℕ → Priced End
-  chosen best k = after n (after j (choose k (led best es)))
+  abbrev chosen : Best → ℕ → Priced Choice
+  chosen best k = after n (after j (choose k (led best (numbered 1 es))))
 
   without-hint : inversionBy s (scaleOf s) m Nothing t ≡ chosen Best.Nothing 0
   unfolding inversionBy plainSteps explored searched _then_
   without-hint = rw (h, r)
 
   -- the hint's run ends further than the tolerance
-  with-hint : (u v : Float) (e : End) (k : ℕ) → run (domainOf s) m (evaluateBy s (scaleOf s)) u v ≡ answered e k → le (e .distance) t ≡ false → inversionBy s (scaleOf s) m (At u v) t ≡ after k (chosen (Best.At e) k)
+  with-hint : (u v : Float) (e : End) (k : ℕ) → run (domainOf s) m (evaluateBy s (scaleOf s)) u v ≡ answered e k → le (e .at .distance) t ≡ false → inversionBy s (scaleOf s) m (At u v) t ≡ after k (chosen (Best.At (from 0 e)) k)
   unfolding inversionBy plainSteps hinted unlessClose explored searched _then_
   with-hint u v e k i f = rw (i, f, h, r)
 
 -- ---- the call by its plain steps
 
-module _ (s : Surface) (m : Vector3) (hint : Hint) (t : Float) (p : Priced End) (ok : refusalOfSurface s ≡ 0) (sound : soundSearch m (terms hint t) ≡ true) (steps : inversionBy s (scaleOf s) m hint t ≡ p) where
+module _ (s : Surface) (m : Vector3) (hint : Hint) (t : Float) (p : Priced Choice) (ok : refusalOfSurface s ≡ 0) (sound : soundSearch m (terms hint t) ≡ true) (steps : inversionBy s (scaleOf s) m hint t ≡ p) where
   enough : placed s m (terms hint t) (price p) ≡ resultOf (terms hint t) p
   enough = rw steps at (answer-enough (terms hint t) s ok m sound (price p) (rw steps (omega arith)))
 
@@ -345,25 +356,25 @@ square-runs-hold : Holds square-runs
 unfolding compute
 square-runs-hold = refl
 
-square-steps : inversionBy square (scaleOf square) mark Nothing ½· ≡ answered foot 92
+square-steps : inversionBy square (scaleOf square) mark Nothing ½· ≡ answered (from 1 foot) 92
 unfolding compute
 square-steps = without-hint square mark ½· six 81 _ 11 square-starts-hold square-runs-hold ∙ refl
 
 square-free-holds : Holds square-free
 unfolding compute
-square-free-holds = (enough square mark Nothing ½· (answered foot 92) refl refl square-steps, refl, refl)
+square-free-holds = (enough square mark Nothing ½· (answered (from 1 foot) 92) refl refl square-steps, refl, refl)
 
 square-short-holds : Holds square-short
 unfolding compute
-square-short-holds = (short square mark Nothing ½· (answered foot 92) refl refl square-steps 91 (omega arith), refl, refl)
+square-short-holds = (short square mark Nothing ½· (answered (from 1 foot) 92) refl refl square-steps 91 (omega arith), refl, refl)
 
-square-far-steps : inversionBy square (scaleOf square) mark (At ¼· ½·) ½· ≡ answered foot 94
+square-far-steps : inversionBy square (scaleOf square) mark (At ¼· ½·) ½· ≡ answered (from 0 foot) 94
 unfolding compute
 square-far-steps = with-hint square mark ½· six 81 _ 11 square-starts-hold square-runs-hold ¼· ½· foot 1 refl refl ∙ refl
 
 square-far-holds : Holds square-far
 unfolding compute
-square-far-holds = (enough square mark (At ¼· ½·) ½· (answered foot 94) refl refl square-far-steps, refl, refl)
+square-far-holds = (enough square mark (At ¼· ½·) ½· (answered (from 0 foot) 94) refl refl square-far-steps, refl, refl)
 
 abbrev eighths : List Float
 eighths = 0· ∷ ⅛· ∷ ¼· ∷ ⅜· ∷ ½· ∷ ⅝· ∷ ¾· ∷ ⅞· ∷ 1· ∷ []
@@ -385,13 +396,13 @@ dot-starts-hold : Holds dot-starts
 unfolding mapped Shortlist.compute
 dot-starts-hold = ap (mapped startsOf) dot-points ∙ refl
 
-dot-steps : inversionBy dot (scaleOf dot) dot-mark Nothing 0· ≡ answered (end inside inside 5·) 83
+dot-steps : inversionBy dot (scaleOf dot) dot-mark Nothing 0· ≡ answered (from 1 stop) 83
 unfolding compute
-dot-steps = without-hint dot dot-mark 0· _ 81 (end inside inside 5· ∷ []) 2 dot-starts-hold refl ∙ refl
+dot-steps = without-hint dot dot-mark 0· _ 81 (stop ∷ []) 2 dot-starts-hold refl ∙ refl
 
 dot-free-holds : Holds dot-free
 unfolding compute
-dot-free-holds = (enough dot dot-mark Nothing 0· (answered (end inside inside 5·) 83) refl refl dot-steps, refl, refl)
+dot-free-holds = (enough dot dot-mark Nothing 0· (answered (from 1 stop) 83) refl refl dot-steps, refl, refl)
 
 square-edges-hold : Holds square-edges
 unfolding Edges.compute

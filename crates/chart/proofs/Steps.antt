@@ -7,9 +7,8 @@ use Rattle.vector3.specs.declared.Vector3.{Vector3}
 use Rattle.vector3.specs.Laws.{Finite, vector-finite}
 use Rattle.price.specs.Price.{spend}
 use Rattle.surface.specs.Surface.{Surface}
-use Rattle.newton.specs.declared.Outcome.{Outcome}
-use Rattle.newton.specs.Run.{outcomeOf}
-use Rattle.inversion.specs.Inversion.{inversionBy}
+use Rattle.inversion.specs.declared.Answer.{Answer}
+use Rattle.inversion.specs.Inversion.{inversionBy, answerOf}
 use Rattle.chart.specs.declared.Terms.{Terms}
 use Rattle.chart.specs.declared.Placing.{Placing}
 use Rattle.chart.specs.declared.Placing.the-variants.{Refusal}
@@ -28,6 +27,6 @@ module _ (mark : Vector3) (t : Terms) where
     unfolding placedBy
     not-sound h = simp (← e, h)
 
-    pub found : b ≡ true → {o : Outcome} → o ≡ outcomeOf (spend budget (inversionBy s m mark (t .hint) (t .tolerance))) → {r : Placing} → r ≡ placingOf budget t o → r ≡ answer
+    pub found : b ≡ true → {o : Answer} → o ≡ answerOf (spend budget (inversionBy s m mark (t .hint) (t .tolerance))) → {r : Placing} → r ≡ placingOf budget t o → r ≡ answer
     unfolding placedBy
     found h p q = q ∙ simp (← e, h, p)

@@ -8,13 +8,13 @@ use Rattle.vector3.specs.declared.Vector3.{Vector3}
 use Rattle.vector3.specs.Vector3.{finiteVector}
 use Rattle.price.specs.Price.{spend}
 use Rattle.surface.specs.Surface.{Surface}
-use Rattle.newton.specs.declared.End.{End}
-use Rattle.newton.specs.declared.Outcome.{Outcome}
-use Rattle.newton.specs.declared.Outcome.the-variants.{Ended, Refused, Spent}
-use Rattle.newton.specs.Run.{outcomeOf}
+use Rattle.newton.specs.declared.Iterate.{Iterate}
 use Rattle.inversion.specs.declared.Hint.{Hint}
 use Rattle.inversion.specs.declared.Hint.the-variants.{Nothing, At}
-use Rattle.inversion.specs.Inversion.{inversionBy}
+use Rattle.inversion.specs.declared.Choice.{Choice}
+use Rattle.inversion.specs.declared.Answer.{Answer}
+use Rattle.inversion.specs.declared.Answer.the-variants.{Chosen, Refused, Spent}
+use Rattle.inversion.specs.Inversion.{inversionBy, answerOf}
 use Rattle.chart.specs.declared.Period.{Period}
 use Rattle.chart.specs.declared.Period.the-variants.{Free, Every}
 use Rattle.chart.specs.declared.Terms.{Terms}
@@ -47,34 +47,35 @@ unfoldable pub shifted : Period → Float → Float → Float
 shifted Free hint value = value
 shifted (Every p) hint value = nearestTo value hint p
 
-unfoldable pub turnedTo : Hint → Period → Period → End → End
-turnedTo Nothing pu pv e = e
-turnedTo (At u v) pu pv e = record { u = shifted pu u (e .u); v = shifted pv v (e .v); distance = e .distance }
+unfoldable pub turnedTo : Hint → Period → Period → Iterate → Iterate
+turnedTo Nothing pu pv p = p
+turnedTo (At u v) pu pv p = record { u = shifted pu u (p .u); v = shifted pv v (p .v); distance = p .distance }
 
-abbrev pub turned : Terms → End → End
-turned t e = turnedTo (t .hint) (t .u) (t .v) e
+-- the pair alone
+abbrev pub turned : Terms → Choice → Choice
+turned t c = record { end = record { at = turnedTo (t .hint) (t .u) (t .v) (c .end .at); ending = c .end .ending }; origin = c .origin }
 
 -- ---- the search
 
 -- 9 where an evaluation refused, 8 where no unit was left: then all are taken
-unfoldable pub placingOf : ℕ → Terms → Outcome → Placing
-placingOf budget t (Ended e n) = Pair (turned t e) n
+unfoldable pub placingOf : ℕ → Terms → Answer → Placing
+placingOf budget t (Chosen c n) = Pair (turned t c) n
 placingOf budget t (Refused n) = Refusal 9 n
 placingOf budget t Spent = Refusal 8 budget
 
 unfoldable pub placedBy : Surface → Float → Vector3 → Terms → ℕ → Bool → Placing
-placedBy s m mark t budget sound = cond sound (placingOf budget t (outcomeOf (spend budget (inversionBy s m mark (t .hint) (t .tolerance))))) (Refusal 7 0)
+placedBy s m mark t budget sound = cond sound (placingOf budget t (answerOf (spend budget (inversionBy s m mark (t .hint) (t .tolerance))))) (Refusal 7 0)
 
 abbrev pub takenOf : Placing → ℕ
-takenOf (Pair e n) = n
+takenOf (Pair c n) = n
 takenOf (Refusal number n) = n
 
 -- ---- 01's values of an answer: its number, 0 for a pair, and the budget left
 
 unfoldable pub numberOf : Placing → ℕ
-numberOf (Pair e n) = 0
+numberOf (Pair c n) = 0
 numberOf (Refusal number n) = number
 
 unfoldable pub leftOf : ℕ → Placing → ℕ
-leftOf budget (Pair e n) = budget - n
+leftOf budget (Pair c n) = budget - n
 leftOf budget (Refusal number n) = budget - n

@@ -1,10 +1,10 @@
 // A mark on the chart of a surface that passed its checks: check 7, the search, and the shift of its answer by periods.
 mod search;
 
+use inversion::Answer;
+use inversion::Choice;
 use inversion::Hint;
 use inversion::invert_nurbs;
-use newton::End;
-use newton::Outcome;
 use scaled::Accepted;
 pub use search::nearest;
 use search::sound;
@@ -30,9 +30,9 @@ pub struct Terms {
     pub v: Period,
 }
 
-// The pair that a call answers, with its distance, and the units taken; or the number of a refusal and the units taken.
+// The pair that a call answers, with its distance, how its run ended and where that came from, and the units taken; or the number of a refusal and the units taken.
 pub enum Placing {
-    Pair(End, u64),
+    Pair(Choice, u64),
     Refusal(u64, u64),
 }
 
@@ -54,7 +54,7 @@ pub fn invert_checked(
         return Placing::Refusal(7, 0);
     }
     let hint = terms.hint;
-    let outcome = invert_nurbs(
+    let answer = invert_nurbs(
         accepted,
         ku,
         kv,
@@ -65,16 +65,16 @@ pub fn invert_checked(
         terms.tolerance,
         budget,
     );
-    placing_of(budget, terms, outcome)
+    placing_of(budget, terms, answer)
 }
 
 // 9 where an evaluation refused, 8 where no unit was left: then all are taken.
-fn placing_of(budget: u64, terms: Terms, outcome: Outcome) -> Placing
-    ensures { λ r. ⌜ r ≡ placingOf budget terms outcome ⌝ }
+fn placing_of(budget: u64, terms: Terms, answer: Answer) -> Placing
+    ensures { λ r. ⌜ r ≡ placingOf budget terms answer ⌝ }
 {
-    match outcome {
-        Outcome::Ended(end, taken) => Placing::Pair(turned(terms, end), taken),
-        Outcome::Refused(taken) => Placing::Refusal(9, taken),
-        Outcome::Spent => Placing::Refusal(8, budget),
+    match answer {
+        Answer::Chosen(choice, taken) => Placing::Pair(turned(terms, choice), taken),
+        Answer::Refused(taken) => Placing::Refusal(9, taken),
+        Answer::Spent => Placing::Refusal(8, budget),
     }
 }

@@ -1,12 +1,14 @@
 // What a search is given besides the surface, and the shift of its answer to the hint's turn.
 use crate::Period;
 use crate::Terms;
+use inversion::Choice;
 use inversion::Hint;
 use newton::End;
+use newton::Iterate;
 use vector3::Vector3;
 use vector3::finite_vector;
 ghost use mathlib.Core.Path.{_≡_};
-ghost use Rattle.chart.specs.Chart.{nearestTo, shifted, turned, soundHint, soundPeriod, soundTerms, soundSearch};
+ghost use Rattle.chart.specs.Chart.{nearestTo, shifted, turnedTo, turned, soundHint, soundPeriod, soundTerms, soundSearch};
 
 // The number equal to `value` but for a whole number of periods that is nearest to `hint`.
 pub fn nearest(value: f64, hint: f64, period: f64) -> f64
@@ -25,19 +27,32 @@ fn shift(period: Period, hint: f64, value: f64) -> f64
 }
 
 // Shifted by periods to the hint's turn, as the hint was given. The distance stays.
-pub(crate) fn turned(terms: Terms, end: End) -> End
-    ensures { λ r. ⌜ r ≡ turned terms end ⌝ }
+fn turned_to(hint: Hint, pu: Period, pv: Period, at: Iterate) -> Iterate
+    ensures { λ r. ⌜ r ≡ turnedTo hint pu pv at ⌝ }
+{
+    match hint {
+        Hint::Nothing => at,
+        Hint::At(u, v) => Iterate {
+            u: shift(pu, u, at.u),
+            v: shift(pv, v, at.v),
+            distance: at.distance,
+        },
+    }
+}
+
+// The pair alone is shifted.
+pub(crate) fn turned(terms: Terms, choice: Choice) -> Choice
+    ensures { λ r. ⌜ r ≡ turned terms choice ⌝ }
 {
     let hint = terms.hint;
-    let period_u = terms.u;
-    let period_v = terms.v;
-    match hint {
-        Hint::Nothing => end,
-        Hint::At(u, v) => End {
-            u: shift(period_u, u, end.u),
-            v: shift(period_v, v, end.v),
-            distance: end.distance,
-        },
+    let pu = terms.u;
+    let pv = terms.v;
+    let end = choice.end;
+    let ending = end.ending;
+    let at = turned_to(hint, pu, pv, end.at);
+    Choice {
+        end: End { at, ending },
+        origin: choice.origin,
     }
 }
 

@@ -15,7 +15,7 @@ use Rattle.newton.specs.declared.End.{End}
 use Rattle.newton.specs.declared.Outcome.{Outcome}
 use Rattle.newton.specs.declared.Outcome.the-variants.{Ended, Refused, Spent}
 use Rattle.newton.specs.Run.{run, outcomeOf}
-use Rattle.newton.specs.OutcomeLaws.{ended-told, refused-told, short-told, spent-back, refused-back, ended-back}
+use Rattle.newton.specs.OutcomeLaws.{spent-back, refused-back, ended-back}
 use Rattle.grid.specs.declared.Values.{Values}
 use Rattle.shortlist.specs.declared.Start.{Start}
 use Rattle.seeds.specs.declared.Walked.{Walked}
@@ -26,9 +26,13 @@ use Rattle.shortlist.specs.Insert.{startsIn}
 use Rattle.seeds.specs.Walk.{walkedOf}
 use Rattle.inversion.specs.declared.Hint.{Hint}
 use Rattle.inversion.specs.declared.Hint.the-variants as Hint
+use Rattle.inversion.specs.declared.Choice.{Choice}
 use Rattle.inversion.specs.declared.Best.{Best}
 use Rattle.inversion.specs.declared.Best.the-variants.{Nothing, At}
-use Rattle.inversion.specs.Inversion.{searched, explored, exploredOn, unlessClose, hinted, plainSteps, inversionBy}
+use Rattle.inversion.specs.declared.Answer.{Answer}
+use Rattle.inversion.specs.declared.Answer.the-variants as Answer
+use Rattle.inversion.specs.Inversion.{ofHint, searched, explored, exploredOn, unlessClose, hinted, plainSteps, inversionBy, answerOf}
+use Rattle.inversion.proofs.SearchSteps.{chosen-told, refusal-told, too-dear}
 
 -- ---- the grid, and the search after it
 
@@ -60,37 +64,37 @@ module _ {s : Surface} {m : Float} {mark : Vector3} {k budget : ℕ} {w : Walked
   refused-fits z = omega (arith, h .within, one-refused z .1)
 
   module _ (best : Best) (again : ℕ) where
-    abbrev steps : Priced End
+    abbrev steps : Priced Choice
     steps = after k (exploredOn s m mark best again)
 
     pub explore-found : (d : Domain) → d ≡ domainOf s → w .refusal ≡ 0
-        → {r : Outcome} → r ≡ outcomeOf (spend budget (after (k + w .taken) (searched d mark (evaluateBy s m) best again (startsIn (w .starts))))) → r ≡ outcomeOf (spend budget steps)
+        → {r : Answer} → r ≡ answerOf (spend budget (after (k + w .taken) (searched d mark (evaluateBy s m) best again 1 (startsIn (w .starts))))) → r ≡ answerOf (spend budget steps)
     unfolding explored _then_
-    explore-found d g z f = f ∙ rw (g, all-seen z .0) (ap (λ (p : Priced End). outcomeOf (spend budget p)) (sym (after-after k (w .taken) _)))
+    explore-found d g z f = f ∙ rw (g, all-seen z .0) (ap (λ (p : Priced Choice). answerOf (spend budget p)) (sym (after-after k (w .taken) _)))
 
-    pub explore-refused : w .refusal ≡ 9 → Refused (k + w .taken) ≡ outcomeOf (spend budget steps)
+    pub explore-refused : w .refusal ≡ 9 → Answer.Refused (k + w .taken) ≡ answerOf (spend budget steps)
     unfolding explored _then_ after
-    explore-refused z = rw (one-refused z .0) (refused-told budget (k + w .taken) (refused-fits z))
+    explore-refused z = rw (one-refused z .0) (refusal-told budget (k + w .taken) (refused-fits z))
 
-    pub explore-spent : (w .refusal ≡ 0 → ⊥) → (w .refusal ≡ 9 → ⊥) → Spent ≡ outcomeOf (spend budget steps)
+    pub explore-spent : (w .refusal ≡ 0 → ⊥) → (w .refusal ≡ 9 → ⊥) → Answer.Spent ≡ answerOf (spend budget steps)
     unfolding explored walkedOf
     explore-spent f g =
         let o : spent ≡ walkedOf w = sym (simp (ne-eqb (w .refusal) 0 f, ne-eqb (w .refusal) 9 g)) in
-        let least = then-least (startsOn s m mark) (searched (domainOf s) mark (evaluateBy s m) best again) in
-        short-told budget steps (omega (arith, was-spent (budget - k) (startsOn s m mark) (o ∙ h .told), least, after-price k (exploredOn s m mark best again)))
+        let least = then-least (startsOn s m mark) (searched (domainOf s) mark (evaluateBy s m) best again 1) in
+        too-dear budget steps (omega (arith, was-spent (budget - k) (startsOn s m mark) (o ∙ h .told), least, after-price k (exploredOn s m mark best again)))
 
 -- ---- the hint
 
 module _ (s : Surface) (m : Float) (mark : Vector3) (hint : Hint) (tolerance : Float) (budget : ℕ) where
-  abbrev answer : Outcome
-  answer = outcomeOf (spend budget (inversionBy s m mark hint tolerance))
+  abbrev answer : Answer
+  answer = answerOf (spend budget (inversionBy s m mark hint tolerance))
 
-  pub unhinted : hint ≡ Hint.Nothing → {r : Outcome} → r ≡ outcomeOf (spend budget (after 0 (exploredOn s m mark Nothing 0))) → r ≡ answer
+  pub unhinted : hint ≡ Hint.Nothing → {r : Answer} → r ≡ answerOf (spend budget (after 0 (exploredOn s m mark Nothing 0))) → r ≡ answer
   unfolding inversionBy plainSteps
   unhinted f e = e ∙ rw (f, after-none (exploredOn s m mark Nothing 0))
 
   module _ (d : Domain) (g : d ≡ domainOf s) (u v : Float) (f : hint ≡ Hint.At u v) {o : Outcome} (e : o ≡ outcomeOf (spend budget (run d mark (evaluateBy s m) u v))) where
-    abbrev afterRun : Priced End → Priced End
+    abbrev afterRun : Priced End → Priced Choice
     afterRun r = hinted (domainOf s) mark (evaluateBy s m) (valuesOf (axisU s)) (valuesOf (axisV s)) tolerance r
 
     by-run : inversionBy s m mark hint tolerance ≡ afterRun (run d mark (evaluateBy s m) u v)
@@ -101,33 +105,33 @@ module _ (s : Surface) (m : Float) (mark : Vector3) (hint : Hint) (tolerance : F
     hinted-least : (r : Priced End) → price r ≤ price (afterRun r)
     unfolding hinted unlessClose
     hinted-least (refused k) = omega arith
-    hinted-least (answered a k) = by (le (a .distance) tolerance)
+    hinted-least (answered a k) = by (le (a .at .distance) tolerance)
       where
         by : (t : Bool) → k ≤ price (unlessClose (domainOf s) mark (evaluateBy s m) (valuesOf (axisU s)) (valuesOf (axisV s)) t a k)
         by true = omega arith
-        by false = omega (arith, after-price k (exploredOn s m mark (At a) k))
+        by false = omega (arith, after-price k (exploredOn s m mark (At (ofHint a)) k))
 
-    pub hint-spent : o ≡ Spent → Spent ≡ answer
-    hint-spent z = short-told budget _ (rw by-run (omega (arith, spent-back budget _ e z, hinted-least (run d mark (evaluateBy s m) u v))))
+    pub hint-spent : o ≡ Spent → Answer.Spent ≡ answer
+    hint-spent z = too-dear budget _ (rw by-run (omega (arith, spent-back budget _ e z, hinted-least (run d mark (evaluateBy s m) u v))))
 
-    pub hint-refused : (k : ℕ) → o ≡ Refused k → Refused k ≡ answer
+    pub hint-refused : (k : ℕ) → o ≡ Refused k → Answer.Refused k ≡ answer
     unfolding hinted
     hint-refused k z =
         let p = refused-back budget _ e k z in
-        rw (by-run, p .0) (refused-told budget k (p .1))
+        rw (by-run, p .0) (refusal-told budget k (p .1))
 
     module _ (a : End) (k : ℕ) (ended : o ≡ Ended a k) where
       pub hint-fits : k ≤ budget
       hint-fits = ended-back budget _ e a k ended .1
 
-      weighed : inversionBy s m mark hint tolerance ≡ unlessClose (domainOf s) mark (evaluateBy s m) (valuesOf (axisU s)) (valuesOf (axisV s)) (le (a .distance) tolerance) a k
+      weighed : inversionBy s m mark hint tolerance ≡ unlessClose (domainOf s) mark (evaluateBy s m) (valuesOf (axisU s)) (valuesOf (axisV s)) (le (a .at .distance) tolerance) a k
       unfolding hinted
       weighed = by-run ∙ rw (ended-back budget _ e a k ended .0)
 
-      pub hint-close : le (a .distance) tolerance ≡ true → Ended a k ≡ answer
+      pub hint-close : le (a .at .distance) tolerance ≡ true → Answer.Chosen (ofHint a) k ≡ answer
       unfolding unlessClose
-      hint-close t = rw (weighed, t) (ended-told budget a k hint-fits)
+      hint-close t = rw (weighed, t) (chosen-told budget (ofHint a) k hint-fits)
 
-      pub hint-far : le (a .distance) tolerance ≡ false → {r : Outcome} → r ≡ outcomeOf (spend budget (after k (exploredOn s m mark (At a) k))) → r ≡ answer
+      pub hint-far : le (a .at .distance) tolerance ≡ false → {r : Answer} → r ≡ answerOf (spend budget (after k (exploredOn s m mark (At (ofHint a)) k))) → r ≡ answer
       unfolding unlessClose
       hint-far t h = h ∙ rw (weighed, t)

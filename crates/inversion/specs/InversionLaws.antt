@@ -2,7 +2,7 @@
 use mathlib.Core.Path.{_≡_, refl}
 use mathlib.Core.Bool.{Bool, true, false, cond}
 use mathlib.Core.List.{List, [], _∷_, List·Memᴰ, List·Memᴰ·head, List·Memᴰ·tail, List·Memᴰ·not-nil}
-use Prim.Native.Nat.{ℕ, _+_, _*_, _≤_}
+use Prim.Native.Nat.{ℕ, suc, _+_, _*_, _≤_}
 use native.Mathlib.Nat.{mul-le-mul, zero-add}
 use native.Mathlib.Omega.{arith}
 use lib.ListN.{length}
@@ -25,20 +25,25 @@ use Rattle.shortlist.specs.SortLaws.{numbers-of, NearestSix, starts-nearest-six
 use Rattle.seeds.specs.Grid.{survey}
 use Rattle.inversion.specs.declared.Hint.{Hint}
 use Rattle.inversion.specs.declared.Hint.the-variants as Hint
+use Rattle.inversion.specs.declared.Choice.{Choice}
 use Rattle.inversion.specs.declared.Best.{Best}
 use Rattle.inversion.specs.declared.Best.the-variants.{Nothing, At}
-use Rattle.inversion.specs.Inversion.{nearer, nearestEnd, led, choose, runs, searched, explored, unlessClose, hinted, plainSteps}
+use Rattle.inversion.specs.Inversion.{ofHint, numbered, nearer, nearestOf, led, choose, runs, searched, explored, unlessClose, hinted, plainSteps}
 use Rattle.inversion.specs.Nearest.{All, all-at, all-map, Number, Nearest, here, there, nearest-member, nearest-least, First, nearest-first, nearest-front, nearest-second, nearest-only}
 use Rattle.inversion.specs.GridLaws.{Counted, Seen, away, Fronted, survey-counted, survey-seen, survey-meets, survey-found, starts-some, starts-fronted}
 
--- ---- the nearest of ends
+-- ---- the nearest of the ends
 
-abbrev pub far : End → Float
-far e = e .distance
+-- what holds of the end of the run that was chosen, where there is one
+abbrev pub EndsAt : (End → Type 0) → Priced Choice → Type 0
+EndsAt P r = Answers (λ c n. P (c .end)) r
+
+abbrev pub far : Choice → Float
+far c = c .end .at .distance
 
 -- what holds of all holds of the nearest
-nearest-of : (P : End → Type 0) (a : End) (bs : List End) → P a → All P bs → P (nearestEnd a bs)
-unfolding nearestEnd nearer
+nearest-of : (P : Choice → Type 0) (a : Choice) (bs : List Choice) → P a → All P bs → P (nearestOf a bs)
+unfolding nearestOf nearer
 nearest-of P a [] h k = h
 nearest-of P a (b ∷ bs) h k = nearest-of P (nearer a b) bs (by (lt (far b) (far a))) (k .1)
   where
@@ -46,31 +51,31 @@ nearest-of P a (b ∷ bs) h k = nearest-of P (nearer a b) bs (by (lt (far b) (fa
     by true = k .0
     by false = h
 
-nearest-step : (a b : End) (bs : List End) → Number far a → Number far b → ((c : End) → Number far c → Nearest far (nearestEnd c bs) (c ∷ bs))
-    → (t : Bool) → lt (far b) (far a) ≡ t → Nearest far (nearestEnd (cond t b a) bs) (a ∷ b ∷ bs)
+nearest-step : (a b : Choice) (bs : List Choice) → Number far a → Number far b → ((c : Choice) → Number far c → Nearest far (nearestOf c bs) (c ∷ bs))
+    → (t : Bool) → lt (far b) (far a) ≡ t → Nearest far (nearestOf (cond t b a) bs) (a ∷ b ∷ bs)
 nearest-step a b bs ha hb rest true l =
     let n = rest b hb in
-    there {b = a} (le-lt-trans (far (nearestEnd b bs)) (far b) (far a) (nearest-front far hb n) l) n
+    there {b = a} (le-lt-trans (far (nearestOf b bs)) (far b) (far a) (nearest-front far hb n) l) n
 nearest-step a b bs ha hb rest false l =
     let h : le (far a) (far b) ≡ true = simp (le-not-lt (far a) (far b) ha hb, l) in
     nearest-second far b h (rest a ha)
 
--- the fold `nearestEnd` finds the first with the least distance
-pub nearest-nearest : (a : End) (bs : List End) → All (Number far) (a ∷ bs) → Nearest far (nearestEnd a bs) (a ∷ bs)
-unfolding nearestEnd nearer
+-- the fold `nearestOf` finds the first with the least distance
+pub nearest-nearest : (a : Choice) (bs : List Choice) → All (Number far) (a ∷ bs) → Nearest far (nearestOf a bs) (a ∷ bs)
+unfolding nearestOf nearer
 nearest-nearest a [] h = here tt
 nearest-nearest a (b ∷ bs) h = nearest-step a b bs (h .0) (h .1 .0) (λ c k. nearest-nearest c bs (k, h .1 .1)) (lt (far b) (far a)) refl
 
 -- the nearest of a list, as the plain steps take it
-abbrev pub Picked : List End → End → Type 0
+abbrev pub Picked : List Choice → Choice → Type 0
 Picked [] a = ⊥
-Picked (b ∷ bs) a = nearestEnd b bs ≡ a
+Picked (b ∷ bs) a = nearestOf b bs ≡ a
 
-picked-of : (P : End → Type 0) (bs : List End) (a : End) → All P bs → Picked bs a → P a
+picked-of : (P : Choice → Type 0) (bs : List Choice) (a : Choice) → All P bs → Picked bs a → P a
 picked-of P [] a h p = absurd p
 picked-of P (b ∷ bs) a h p = rw p at (nearest-of P b bs (h .0) (h .1))
 
-picked-nearest : (bs : List End) (a : End) → All (Number far) bs → Picked bs a → Nearest far a bs
+picked-nearest : (bs : List Choice) (a : Choice) → All (Number far) bs → Picked bs a → Nearest far a bs
 picked-nearest [] a h p = absurd p
 picked-nearest (b ∷ bs) a h p = rw p at (nearest-nearest b bs h)
 
@@ -100,12 +105,12 @@ module _ (d : Domain) (mark : Vector3) (eval : Float → Float → Evaluated) wh
   -- the end of the hint's run, if there is a hint, which is not within tolerance; and the evaluations that it made
   pub data Leads (tolerance : Float) : Hint → Best → ℕ → Type 0 where
     nothing : Leads tolerance Hint.Nothing Nothing 0
-    from : {u v : Float} {e : End} {k : ℕ} → run d mark eval u v ≡ answered e k → le (e .distance) tolerance ≡ false → Leads tolerance (Hint.At u v) (At e) k
+    from : {u v : Float} {e : End} {k : ℕ} → run d mark eval u v ≡ answered e k → le (e .at .distance) tolerance ≡ false → Leads tolerance (Hint.At u v) (At (ofHint e)) k
 
   module _ (us vs : List Float) where
     -- "A pair, before any shift by periods, is the hint run's end where that lies within tolerance."
-    pub hint-taken : (u v tolerance : Float) (e : End) (k : ℕ) → run d mark eval u v ≡ answered e k → le (e .distance) tolerance ≡ true
-        → plainSteps d mark eval us vs (Hint.At u v) tolerance ≡ answered e k
+    pub hint-taken : (u v tolerance : Float) (e : End) (k : ℕ) → run d mark eval u v ≡ answered e k → le (e .at .distance) tolerance ≡ true
+        → plainSteps d mark eval us vs (Hint.At u v) tolerance ≡ answered (ofHint e) k
     unfolding plainSteps hinted unlessClose
     hint-taken u v tolerance e k p h = simp (p, h)
 
@@ -117,7 +122,7 @@ module _ (d : Domain) (mark : Vector3) (eval : Float → Float → Evaluated) wh
         ran-some (rw p at (runs-ran (startsOf ps))) (starts-some ps (omega (arith, count .0)))
 
     -- "Otherwise it is the nearest of the ends of the hint's run, if any, and of the runs from the first six of the whole grid sorted by distance, equal distances dropped"
-    pub record Chosen (tolerance : Float) (hint : Hint) (e : End) (n : ℕ) : Type 0 where
+    pub record Chosen (tolerance : Float) (hint : Hint) (c : Choice) (n : ℕ) : Type 0 where
       pub lead : Best
       pub leadMade : ℕ
       pub leads : Leads tolerance hint lead leadMade
@@ -126,14 +131,18 @@ module _ (d : Domain) (mark : Vector3) (eval : Float → Float → Evaluated) wh
       pub others : List End
       pub made : ℕ
       pub ran : Ran (startsOf points) others made
-      pub picked : Picked (led lead others) e
+      pub picked : Picked (led lead (numbered 1 others)) c
       pub price : n ≡ 2 * leadMade + length us * length vs + made
+
+    -- the ends among which it was chosen, the hint's first, then the starts' in order
+    abbrev pub candidates : {tolerance : Float} {hint : Hint} {e : Choice} {n : ℕ} → Chosen tolerance hint e n → List Choice
+    candidates c = led (c .lead) (numbered 1 (c .others))
 
     -- a grid point that is at least as far as an end
     pub record AsFar (e : End) (u v : Float) : Type 0 where
       pub jet : Jet
       pub found : eval u v ≡ Found jet
-      pub far : le (e .distance) (fromMark mark jet) ≡ true
+      pub far : le (e .at .distance) (fromMark mark jet) ≡ true
 
     -- the nearest of the grid's points, the first among equals; unless the run from it was nudged, every point of the grid is at least as far as the end
     pub record NoNearer (points : List Start) (e : End) : Type 0 where
@@ -142,22 +151,22 @@ module _ (d : Domain) (mark : Vector3) (eval : Float → Float → Evaluated) wh
       pub beyond : nudges d mark eval (nearest .u) (nearest .v) ≡ false → (u v : Float) → List·Memᴰ u us → List·Memᴰ v vs → AsFar e u v
 
     -- a pair is the end of the hint's run, within tolerance, or it is chosen
-    pub data Paired (tolerance : Float) : Hint → End → ℕ → Type 0 where
-      taken : {u v : Float} {e : End} {n : ℕ} → run d mark eval u v ≡ answered e n → le (e .distance) tolerance ≡ true → Paired tolerance (Hint.At u v) e n
-      among : {hint : Hint} {e : End} {n : ℕ} → Chosen tolerance hint e n → Paired tolerance hint e n
+    pub data Paired (tolerance : Float) : Hint → Choice → ℕ → Type 0 where
+      taken : {u v : Float} {e : End} {n : ℕ} → run d mark eval u v ≡ answered e n → le (e .at .distance) tolerance ≡ true → Paired tolerance (Hint.At u v) (ofHint e) n
+      among : {hint : Hint} {c : Choice} {n : ℕ} → Chosen tolerance hint c n → Paired tolerance hint c n
 
     module _ (tolerance : Float) where
       -- after the hint's run
       module _ (hint : Hint) (lead : Best) (k : ℕ) (leads : Leads tolerance hint lead k) where
-        abbrev Goes : End → ℕ → Type 0
-        Goes e n = Paired tolerance hint e (k + n)
+        abbrev Goes : Choice → ℕ → Type 0
+        Goes c n = Paired tolerance hint c (k + n)
 
         choose-paired : (ps : List Start) → survey mark eval us vs ≡ answered ps (length us * length vs) → (es : List End) (m : ℕ) → Ran (startsOf ps) es m
-            → (l : List End) → led lead es ≡ l → Answers (λ e n. Goes e (length us * length vs + (m + n))) (choose k l)
+            → (l : List Choice) → led lead (numbered 1 es) ≡ l → Answers (λ c n. Goes c (length us * length vs + (m + n))) (choose k l)
         unfolding choose
         choose-paired ps w es m r [] p = tt
         choose-paired ps w es m r (a ∷ bs) p =
-            let c : Chosen tolerance hint (nearestEnd a bs) (k + (length us * length vs + (m + k))) = record {
+            let c : Chosen tolerance hint (nearestOf a bs) (k + (length us * length vs + (m + k))) = record {
               lead = lead;
               leadMade = k;
               leads = leads;
@@ -171,29 +180,29 @@ module _ (d : Domain) (mark : Vector3) (eval : Float → Float → Evaluated) wh
             } in
             among c
 
-        searched-paired : (ps : List Start) → survey mark eval us vs ≡ answered ps (length us * length vs) → Answers (λ e n. Goes e (length us * length vs + n)) (searched d mark eval lead k (startsOf ps))
+        searched-paired : (ps : List Start) → survey mark eval us vs ≡ answered ps (length us * length vs) → Answers (λ c n. Goes c (length us * length vs + n)) (searched d mark eval lead k 1 (startsOf ps))
         unfolding searched
         searched-paired ps w =
-            then-answers (Ran (startsOf ps)) (λ e n. Goes e (length us * length vs + n)) (λ es. choose k (led lead es)) (λ es m r. choose-paired ps w es m r (led lead es) refl)
+            then-answers (Ran (startsOf ps)) (λ c n. Goes c (length us * length vs + n)) (λ es. choose k (led lead (numbered 1 es))) (λ es m r. choose-paired ps w es m r (led lead (numbered 1 es)) refl)
             (runs d mark eval (startsOf ps)) (runs-ran (startsOf ps))
 
         explored-paired : Answers Goes (explored d mark eval us vs lead k)
         unfolding explored _then_ mapped
         explored-paired = by (survey mark eval us vs) refl (survey-counted mark eval us vs)
           where
-            by : (s : Priced (List Start)) → survey mark eval us vs ≡ s → Counted (length us * length vs) s → Answers Goes (mapped startsOf s then searched d mark eval lead k)
+            by : (s : Priced (List Start)) → survey mark eval us vs ≡ s → Counted (length us * length vs) s → Answers Goes (mapped startsOf s then searched d mark eval lead k 1)
             by (refused n) w c = tt
             by (answered ps n) w c =
-                rw (c .1) (after-answers Goes (length us * length vs) (searched d mark eval lead k (startsOf ps)) (searched-paired ps (rw (c .1) at w)))
+                rw (c .1) (after-answers Goes (length us * length vs) (searched d mark eval lead k 1 (startsOf ps)) (searched-paired ps (rw (c .1) at w)))
 
       hinted-paired : (u v : Float) (r : Priced End) → run d mark eval u v ≡ r → Answers (Paired tolerance (Hint.At u v)) (hinted d mark eval us vs tolerance r)
       unfolding hinted unlessClose
       hinted-paired u v (refused n) p = tt
-      hinted-paired u v (answered e k) p = by (le (e .distance) tolerance) refl
+      hinted-paired u v (answered e k) p = by (le (e .at .distance) tolerance) refl
         where
-          by : (t : Bool) → le (e .distance) tolerance ≡ t → Answers (Paired tolerance (Hint.At u v)) (unlessClose d mark eval us vs t e k)
+          by : (t : Bool) → le (e .at .distance) tolerance ≡ t → Answers (Paired tolerance (Hint.At u v)) (unlessClose d mark eval us vs t e k)
           by true t = taken p t
-          by false t = after-answers (Paired tolerance (Hint.At u v)) k _ (explored-paired (Hint.At u v) (At e) k (from p t))
+          by false t = after-answers (Paired tolerance (Hint.At u v)) k _ (explored-paired (Hint.At u v) (At (ofHint e)) k (from p t))
 
       pub plainSteps-paired : (hint : Hint) → Answers (Paired tolerance hint) (plainSteps d mark eval us vs hint tolerance)
       unfolding plainSteps
@@ -207,54 +216,65 @@ module _ (d : Domain) (mark : Vector3) (eval : Float → Float → Evaluated) wh
       ran-all none = tt
       ran-all (next {s = s} p r) = (rw p at (each (s .u) (s .v)), ran-all r)
 
-      led-all : {tolerance : Float} {hint : Hint} {b : Best} {k : ℕ} (es : List End) → Leads tolerance hint b k → All P es → All P (led b es)
-      unfolding led
-      led-all es nothing h = h
-      led-all es (from {u = u} {v = v} p t) h = (rw p at (each u v), h)
+      abbrev EndIs : Choice → Type 0
+      EndIs c = P (c .end)
 
-      module _ {tolerance : Float} {hint : Hint} {e : End} {n : ℕ} where
-        pub chosen-all : (c : Chosen tolerance hint e n) → All P (led (c .lead) (c .others))
+      numbered-all : (i : ℕ) (es : List End) → All P es → All EndIs (numbered i es)
+      unfolding numbered
+      numbered-all i [] h = tt
+      numbered-all i (e ∷ es) h = (h .0, numbered-all (suc i) es (h .1))
+
+      led-all : {tolerance : Float} {hint : Hint} {b : Best} {k : ℕ} (es : List End) → Leads tolerance hint b k → All P es → All EndIs (led b (numbered 1 es))
+      unfolding led
+      led-all es nothing h = numbered-all 1 es h
+      led-all es (from {u = u} {v = v} p t) h = (rw p at (each u v), numbered-all 1 es h)
+
+      module _ {tolerance : Float} {hint : Hint} {e : Choice} {n : ℕ} where
+        pub chosen-all : (c : Chosen tolerance hint e n) → All EndIs (candidates c)
         chosen-all c = led-all (c .others) (c .leads) (ran-all (c .ran))
 
-        pub chosen-end : (c : Chosen tolerance hint e n) → P e
-        chosen-end c = picked-of P (led (c .lead) (c .others)) e (chosen-all c) (c .picked)
+        pub chosen-end : (c : Chosen tolerance hint e n) → P (e .end)
+        chosen-end c = picked-of EndIs (candidates c) e (chosen-all c) (c .picked)
 
-      paired-end : {tolerance : Float} {hint : Hint} {e : End} {n : ℕ} → Paired tolerance hint e n → P e
+      paired-end : {tolerance : Float} {hint : Hint} {e : Choice} {n : ℕ} → Paired tolerance hint e n → P (e .end)
       paired-end (taken {u = u} {v = v} p t) = rw p at (each u v)
       paired-end (among c) = chosen-end c
 
-      plainSteps-end : (hint : Hint) (tolerance : Float) → Ends P (plainSteps d mark eval us vs hint tolerance)
+      plainSteps-end : (hint : Hint) (tolerance : Float) → EndsAt P (plainSteps d mark eval us vs hint tolerance)
       plainSteps-end hint tolerance = answers-map (Paired tolerance hint) _ (λ e n p. paired-end p) (plainSteps d mark eval us vs hint tolerance) (plainSteps-paired tolerance hint)
 
     -- the pair was evaluated, and the distance is its own
-    pub pair-held : (hint : Hint) (tolerance : Float) → Ends (Reached d mark eval) (plainSteps d mark eval us vs hint tolerance)
-    pair-held = plainSteps-end (Reached d mark eval) (run-held d mark eval)
+    pub pair-held : (hint : Hint) (tolerance : Float) → EndsAt (λ e. Reached d mark eval (e .at)) (plainSteps d mark eval us vs hint tolerance)
+    pair-held = plainSteps-end (λ e. Reached d mark eval (e .at)) (run-held d mark eval)
 
     -- the evaluation refuses a pair with a NaN in it
     module _ (number : (u v : Float) (j : Jet) → eval u v ≡ Found j → (isNan u ≡ false) × (isNan v ≡ false)) where
       -- "Before that shift, axes without the periodic flag stay in their knot domain."
-      pub in-domain : (hint : Hint) (tolerance : Float) → Ends (λ e. Inside (d .u) (e .u) × Inside (d .v) (e .v)) (plainSteps d mark eval us vs hint tolerance)
+      pub in-domain : (hint : Hint) (tolerance : Float) → EndsAt (λ e. Inside (d .u) (e .at .u) × Inside (d .v) (e .at .v)) (plainSteps d mark eval us vs hint tolerance)
       in-domain = plainSteps-end _ (run-in-domain d mark eval number)
 
       -- no number of a pair is a NaN
-      pub pair-number : (hint : Hint) (tolerance : Float) → Ends (λ e. (isNan (e .u) ≡ false) × (isNan (e .v) ≡ false)) (plainSteps d mark eval us vs hint tolerance)
-      pair-number = plainSteps-end _ (λ u v. answers-map _ _ (λ e n r. number (e .u) (e .v) (r .jet) (r .found)) (run d mark eval u v) (run-held d mark eval u v))
+      pub pair-number : (hint : Hint) (tolerance : Float) → EndsAt (λ e. (isNan (e .at .u) ≡ false) × (isNan (e .at .v) ≡ false)) (plainSteps d mark eval us vs hint tolerance)
+      pair-number = plainSteps-end _ (λ u v. answers-map _ _ (λ e n r. number (e .at .u) (e .at .v) (r .jet) (r .found)) (run d mark eval u v) (run-held d mark eval u v))
 
     -- no distance is a NaN
     module _ (number : (u v : Float) (j : Jet) → eval u v ≡ Found j → isNan (fromMark mark j) ≡ false) where
-      ends-known : (u v : Float) → Ends (Number far) (run d mark eval u v)
-      ends-known u v = answers-map _ _ (λ e n r. rw (r .distance) (number (e .u) (e .v) (r .jet) (r .found))) (run d mark eval u v) (run-held d mark eval u v)
+      abbrev Known : End → Type 0
+      Known e = isNan (e .at .distance) ≡ false
 
-      module _ {tolerance : Float} {hint : Hint} {e : End} {n : ℕ} (c : Chosen tolerance hint e n) where
+      ends-known : (u v : Float) → Ends Known (run d mark eval u v)
+      ends-known u v = answers-map _ _ (λ e n r. rw (r .distance) (number (e .at .u) (e .at .v) (r .jet) (r .found))) (run d mark eval u v) (run-held d mark eval u v)
+
+      module _ {tolerance : Float} {hint : Hint} {e : Choice} {n : ℕ} (c : Chosen tolerance hint e n) where
         -- "it is the nearest of the ends", the hint's first, then the starts' in order
-        pub nearest-end : Nearest far e (led (c .lead) (c .others))
-        nearest-end = picked-nearest (led (c .lead) (c .others)) e (chosen-all (Number far) ends-known c) (c .picked)
+        pub nearest-end : Nearest far e (candidates c)
+        nearest-end = picked-nearest (candidates c) e (chosen-all Known ends-known c) (c .picked)
 
-        pub end-least : All (λ b. le (far e) (far b) ≡ true) (led (c .lead) (c .others))
-        end-least = nearest-least far (chosen-end (Number far) ends-known c) nearest-end
+        pub end-least : All (λ b. le (far e) (far b) ≡ true) (candidates c)
+        end-least = nearest-least far (chosen-end Known ends-known c) nearest-end
 
         -- "the hint wins ties, then the earlier": the ends before it are further
-        pub ties : First far e (led (c .lead) (c .others))
+        pub ties : First far e (candidates c)
         ties = nearest-first far nearest-end
 
         seen : All (Seen mark eval) (c .points)
@@ -269,30 +289,36 @@ module _ (d : Domain) (mark : Vector3) (eval : Float → Float → Evaluated) wh
 
       -- where an evaluation succeeds, so does that of the clamped pair, with the same result
       module _ (clamped : (u v : Float) (j : Jet) → eval u v ≡ Found j → eval (clampInto (d .u) u) (clampInto (d .v) v) ≡ Found j) where
-        start-descends : (s : Start) → Seen mark eval s → nudges d mark eval (s .u) (s .v) ≡ false → Ends (λ e. le (far e) (s .distance) ≡ true) (run d mark eval (s .u) (s .v))
+        start-descends : (s : Start) → Seen mark eval s → nudges d mark eval (s .u) (s .v) ≡ false → Ends (λ e. le (e .at .distance) (s .distance) ≡ true) (run d mark eval (s .u) (s .v))
         start-descends s h k = rw (h .distance) (run-descends d mark eval number (s .u) (s .v) (h .jet) (clamped (s .u) (s .v) (h .jet) (h .found)) k)
 
         -- the end of the run from the nearest point is no further than that point
         nearest-descends : (ps ss : List Start) (es : List End) (m : ℕ) → All (Seen mark eval) ps → Fronted ps ss → Ran ss es m
             → (s : Start) → Nearest away s ps → nudges d mark eval (s .u) (s .v) ≡ false
-            → (a : End) × List·Memᴰ a es × (le (far a) (s .distance) ≡ true)
+            → (a : End) × List·Memᴰ a es × (le (a .at .distance) (s .distance) ≡ true)
         nearest-descends ps [] es m seen f r s h k = absurd (List·Memᴰ·not-nil (rw f at (nearest-member away h)))
         nearest-descends ps (q ∷ qs) es m seen f (next {e = e} p r) s h k =
             let same = nearest-only away f h in
             let l = start-descends q (all-at (Seen mark eval) seen (nearest-member away f)) (rw same k) in
             (e, List·Memᴰ·head refl, rw same at (rw p at l))
 
-        led-member : (b : Best) {a : End} {es : List End} → List·Memᴰ a es → List·Memᴰ a (led b es)
+        -- an end among those of the starts stands, with its number, among the candidates
+        numbered-at : (P : End → Type 0) (i : ℕ) {a : End} {es : List End} → List·Memᴰ a es → All (λ c. P (c .end)) (numbered i es) → P a
+        unfolding numbered
+        numbered-at P i (List·Memᴰ·head e) h = rw e (h .0)
+        numbered-at P i (List·Memᴰ·tail m) h = numbered-at P (suc i) m (h .1)
+
+        led-at : (P : End → Type 0) (b : Best) {a : End} {es : List End} → List·Memᴰ a es → All (λ c. P (c .end)) (led b (numbered 1 es)) → P a
         unfolding led
-        led-member Nothing m = m
-        led-member (At e) m = List·Memᴰ·tail m
+        led-at P Nothing m h = numbered-at P 1 m h
+        led-at P (At e) m h = numbered-at P 1 m (h .1)
 
         nearest-start : (ps ss : List Start) → Fronted ps ss → 1 ≤ length ss → (s : Start) × Nearest away s ps
         nearest-start ps [] f h = absurd (omega arith)
         nearest-start ps (q ∷ qs) f h = (q, f)
 
-        module _ {tolerance : Float} {hint : Hint} {e : End} {n : ℕ} (c : Chosen tolerance hint e n) where
-          from-nearest : (s : Start) → Nearest away s (c .points) → nudges d mark eval (s .u) (s .v) ≡ false → (u v : Float) → List·Memᴰ u us → List·Memᴰ v vs → AsFar e u v
+        module _ {tolerance : Float} {hint : Hint} {e : Choice} {n : ℕ} (c : Chosen tolerance hint e n) where
+          from-nearest : (s : Start) → Nearest away s (c .points) → nudges d mark eval (s .u) (s .v) ≡ false → (u v : Float) → List·Memᴰ u us → List·Memᴰ v vs → AsFar (e .end) u v
           from-nearest s h k u v mu mv =
               let f = nearest-descends (c .points) (startsOf (c .points)) (c .others) (c .made) (seen c) (starts-fronted (c .points) (known c)) (c .ran) s h k in
               let a = f .0 in
@@ -303,12 +329,12 @@ module _ (d : Domain) (mark : Vector3) (eval : Float → Float → Evaluated) wh
               record {
                 jet = j;
                 found = g .1;
-                far = le-trans (far e) (far a) (fromMark mark j) (all-at _ (end-least c) (led-member (c .lead) (f .1)))
-                    (le-trans (far a) (s .distance) (fromMark mark j) (f .2) (all-at _ least point));
+                far = le-trans (far e) (a .at .distance) (fromMark mark j) (led-at (λ b. le (far e) (b .at .distance) ≡ true) (c .lead) (f .1) (end-least c))
+                    (le-trans (a .at .distance) (s .distance) (fromMark mark j) (f .2) (all-at _ least point));
               }
 
           -- "In the second case every grid point is at least as far as the pair, unless the run from the nearest, the first in the grid among equals, was nudged."
-          pub grid-no-nearer : 1 ≤ length us → 1 ≤ length vs → NoNearer (c .points) e
+          pub grid-no-nearer : 1 ≤ length us → 1 ≤ length vs → NoNearer (c .points) (e .end)
           grid-no-nearer hu hv =
               let count = rw (c .whole) at (survey-counted mark eval us vs) in
               let some : 1 ≤ length us * length vs = mul-le-mul hu hv in

@@ -5,6 +5,7 @@ pub mod Nearest
 pub mod GridLaws
 pub mod PriceLaws
 pub mod InversionLaws
+pub mod OriginLaws
 pub mod VisitLaws
 pub mod SurfaceLaws
 pub mod Examples

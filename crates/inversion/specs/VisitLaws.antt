@@ -24,9 +24,10 @@ use Rattle.seeds.specs.Visits.{gridOf, pointsOf}
 use Rattle.seeds.specs.VisitLaws.{survey-evaluates, survey-grid}
 use Rattle.inversion.specs.declared.Hint.{Hint}
 use Rattle.inversion.specs.declared.Hint.the-variants as Hint
+use Rattle.inversion.specs.declared.Choice.{Choice}
 use Rattle.inversion.specs.declared.Best.{Best}
 use Rattle.inversion.specs.declared.Best.the-variants.{Nothing, At}
-use Rattle.inversion.specs.Inversion.{nearestEnd, led, choose, runs, searched, explored, unlessClose, hinted, plainSteps}
+use Rattle.inversion.specs.Inversion.{ofHint, numbered, nearestOf, led, choose, runs, searched, explored, unlessClose, hinted, plainSteps}
 use Rattle.inversion.specs.Visits.{isClose, visitsOf, search, planned, evaluations}
 use Rattle.inversion.specs.InversionLaws.{ends-some}
 
@@ -42,47 +43,48 @@ module _ (d : Domain) (mark : Vector3) (eval : Float → Float → Evaluated) wh
       (λ e n p. mapped-evaluates eval (λ (es : List End). e ∷ es) (until eval (visitsOf d mark eval ss)) (runs d mark eval ss) (runs-evaluates ss))
 
   -- k evaluations are charged again at the end, those of these pairs
-  module _ (k : ℕ) (again : List Pair) (ready : (e : End) → Evaluates eval (answered e k) (until eval again)) where
-    choose-evaluates : (es : List End) → (es ≡ [] → ⊥) → Evaluates eval (choose k es) (until eval again)
+  module _ (k : ℕ) (again : List Pair) (ready : (c : Choice) → Evaluates eval (answered c k) (until eval again)) where
+    choose-evaluates : (cs : List Choice) → (cs ≡ [] → ⊥) → Evaluates eval (choose k cs) (until eval again)
     unfolding choose
     choose-evaluates [] some = absurd (some refl)
-    choose-evaluates (e ∷ es) some = ready (nearestEnd e es)
+    choose-evaluates (c ∷ cs) some = ready (nearestOf c cs)
 
-    searched-evaluates : (best : Best) (ss : List Start) → ((es : List End) (n : ℕ) → runs d mark eval ss ≡ answered es n → led best es ≡ [] → ⊥)
-        → Evaluates eval (searched d mark eval best k ss) (until eval (visitsOf d mark eval ss ++ again))
+    searched-evaluates : (best : Best) (ss : List Start) → ((es : List End) (n : ℕ) → runs d mark eval ss ≡ answered es n → led best (numbered 1 es) ≡ [] → ⊥)
+        → Evaluates eval (searched d mark eval best k 1 ss) (until eval (visitsOf d mark eval ss ++ again))
     unfolding searched
     searched-evaluates best ss some =
-        then-evaluates eval (visitsOf d mark eval ss) again (λ (es : List End). choose k (led best es)) (runs d mark eval ss) (runs-evaluates ss) (λ es n p. choose-evaluates (led best es) (some es n p))
+        then-evaluates eval (visitsOf d mark eval ss) again (λ (es : List End). choose k (led best (numbered 1 es))) (runs d mark eval ss) (runs-evaluates ss) (λ es n p. choose-evaluates (led best (numbered 1 es)) (some es n p))
 
     module _ (us vs : List Float) (hu : 1 ≤ length us) (hv : 1 ≤ length vs) where
-      led-some : (best : Best) (ps : List Start) (n : ℕ) → survey mark eval us vs ≡ answered ps n → (es : List End) (m : ℕ) → runs d mark eval (startsOf ps) ≡ answered es m → led best es ≡ [] → ⊥
-      unfolding led
-      led-some Nothing ps n w es m p z = ends-some d mark eval us vs hu hv ps n w m (rw z at p)
-      led-some (At e) ps n w es m p z = let y : _≡_ {A = ℕ} 0 1 = cc in omega arith
+      led-some : (best : Best) (ps : List Start) (n : ℕ) → survey mark eval us vs ≡ answered ps n → (es : List End) (m : ℕ) → runs d mark eval (startsOf ps) ≡ answered es m → led best (numbered 1 es) ≡ [] → ⊥
+      unfolding led numbered
+      led-some Nothing ps n w [] m p z = ends-some d mark eval us vs hu hv ps n w m p
+      led-some Nothing ps n w (e ∷ es) m p z = let y : _≡_ {A = ℕ} 0 1 = cc in omega arith
+      led-some (At c) ps n w es m p z = let y : _≡_ {A = ℕ} 0 1 = cc in omega arith
 
       explored-evaluates : (best : Best) → Evaluates eval (explored d mark eval us vs best k) (until eval (search d mark eval us vs again))
       unfolding explored search
       explored-evaluates best =
           let grid = gridOf us vs in
           rw mapped-then
-          (then-evaluates eval grid (visitsOf d mark eval (startsOf (pointsOf mark eval grid)) ++ again) (λ (ps : List Start). searched d mark eval best k (startsOf ps)) (survey mark eval us vs) (survey-evaluates mark eval us vs)
+          (then-evaluates eval grid (visitsOf d mark eval (startsOf (pointsOf mark eval grid)) ++ again) (λ (ps : List Start). searched d mark eval best k 1 (startsOf ps)) (survey mark eval us vs) (survey-evaluates mark eval us vs)
           (λ ps n w. let g = rw w at (survey-grid mark eval us vs) in rw (← g .points) (searched-evaluates best (startsOf ps) (led-some best ps n w))))
 
   module _ (us vs : List Float) (hu : 1 ≤ length us) (hv : 1 ≤ length vs) where
     close-evaluates : (again : List Pair) (t : Bool) (e : End) (k : ℕ) → Evaluates eval (answered e k) (until eval again)
         → Evaluates eval (unlessClose d mark eval us vs t e k) (until eval (again ++ cond t [] (search d mark eval us vs again)))
     unfolding unlessClose _then_
-    close-evaluates again true e k h = rw append-nil h
+    close-evaluates again true e k h = rw append-nil (record { count = h .count; ending = h .ending })
     close-evaluates again false e k h =
-        then-evaluates eval again (search d mark eval us vs again) (λ (b : End). explored d mark eval us vs (At e) k) (answered e k) h
-        (λ b n p. explored-evaluates k again (λ c. record { count = h .count; ending = h .ending }) us vs hu hv (At e))
+        then-evaluates eval again (search d mark eval us vs again) (λ (b : End). explored d mark eval us vs (At (ofHint e)) k) (answered e k) h
+        (λ b n p. explored-evaluates k again (λ c. record { count = h .count; ending = h .ending }) us vs hu hv (At (ofHint e)))
 
     hinted-evaluates : (tolerance : Float) (again : List Pair) (r : Priced End) → Evaluates eval r (until eval again)
         → Evaluates eval (hinted d mark eval us vs tolerance r) (until eval (again ++ cond (isClose tolerance r) [] (search d mark eval us vs again)))
     unfolding hinted isClose _then_
     hinted-evaluates tolerance again (refused k) h =
-        then-evaluates eval again (search d mark eval us vs again) (λ (e : End). answered e 0) (refused k) h (λ e n p. absurd (let y : _≡_ {A = ℕ} 0 1 = cc in omega arith))
-    hinted-evaluates tolerance again (answered e k) h = close-evaluates again (le (e .distance) tolerance) e k h
+        then-evaluates eval again (search d mark eval us vs again) (λ (e : End). answered (ofHint e) 0) (refused k) h (λ e n p. absurd (let y : _≡_ {A = ℕ} 0 1 = cc in omega arith))
+    hinted-evaluates tolerance again (answered e k) h = close-evaluates again (le (e .at .distance) tolerance) e k h
 
     -- the price of the plain steps is the number of pairs that they evaluate; where they are answered all are found, and where not the last is refused and no other
     pub steps-evaluate : (hint : Hint) (tolerance : Float) → Evaluates eval (plainSteps d mark eval us vs hint tolerance) (evaluations d mark eval us vs hint tolerance)

@@ -21,7 +21,7 @@ use Rattle.inversion.specs.declared.Hint.the-variants.{Nothing, At}
 -- whether a run ends within the tolerance; a refused one has no end
 unfoldable pub isClose : Float → Priced End → Bool
 isClose tolerance (refused n) = false
-isClose tolerance (answered e n) = le (e .distance) tolerance
+isClose tolerance (answered e n) = le (e .at .distance) tolerance
 
 module _ (d : Domain) (mark : Vector3) (eval : Float → Float → Evaluated) where
   -- each start's run, in order

@@ -1,8 +1,8 @@
 // The grid over both axes, and the search from the starts in it.
+use crate::Answer;
 use crate::Lead;
 use crate::search::search;
 use grid::axis_values;
-use newton::Outcome;
 use scaled::Accepted;
 use seeds::walk;
 use vector3::Vector3;
@@ -12,8 +12,7 @@ ghost use Rattle.vector3.specs.Laws.{Finite};
 ghost use Rattle.price.specs.Price.{after, spend};
 ghost use Rattle.surface.specs.Lent.{surfaceOf, atEntry};
 ghost use Rattle.scaled.specs.Accepted.{Accepts};
-ghost use Rattle.newton.specs.Run.{outcomeOf};
-ghost use Rattle.inversion.specs.Inversion.{exploredOn};
+ghost use Rattle.inversion.specs.Inversion.{exploredOn, answerOf};
 
 // The units of the hint's run were taken before, and are charged again at the end.
 pub(crate) fn explore(
@@ -25,9 +24,9 @@ pub(crate) fn explore(
     mark: Vector3,
     lead: Lead,
     budget: u64,
-) -> Outcome
+) -> Answer
     requires { ⌜ Accepts (surfaceOf (accepted .shape) ku kv controls weights) accepted × Finite mark × (lead .taken ≤ budget) ⌝ }
-    ensures { λ r. ⌜ r ≡ outcomeOf (spend budget (after (lead .taken) (exploredOn (atEntry (accepted .shape) ku kv controls weights) (accepted .largest) mark (lead .best) (lead .again)))) ⌝ }
+    ensures { λ r. ⌜ r ≡ answerOf (spend budget (after (lead .taken) (exploredOn (atEntry (accepted .shape) ku kv controls weights) (accepted .largest) mark (lead .best) (lead .again)))) ⌝ }
 {
     let best = lead.best;
     let u = accepted.shape.u;
@@ -56,7 +55,7 @@ pub(crate) fn explore(
         );
     }
     if walked.refusal == 9 {
-        return Outcome::Refused(lead.taken + walked.taken);
+        return Answer::Refused(lead.taken + walked.taken);
     }
-    Outcome::Spent
+    Answer::Spent
 }

@@ -13,21 +13,33 @@ ghost use Rattle.vector3.specs.Laws.{Finite};
 ghost use Rattle.price.specs.Price.{spend};
 ghost use Rattle.surface.specs.Lent.{surfaceOf, atEntry};
 ghost use Rattle.scaled.specs.Accepted.{Accepts};
-ghost use Rattle.newton.specs.Run.{outcomeOf};
-ghost use Rattle.inversion.specs.Inversion.{inversionBy};
+ghost use Rattle.inversion.specs.Inversion.{inversionBy, answerOf};
 
 pub enum Hint {
     Nothing,
     At(f64, f64),
 }
 
-// The nearest end so far.
-pub enum Best {
-    Nothing,
-    At(End),
+// The run that is chosen: its end, and where it came from, 0 for the hint, 1 to 6 for the place of its start among the starts.
+pub struct Choice {
+    pub end: End,
+    pub origin: u8,
 }
 
-// What was done before: the nearest end so far, the units taken, and those of the hint's run, which are charged again at the end.
+// The nearest so far.
+pub enum Best {
+    Nothing,
+    At(Choice),
+}
+
+// By what a budget makes of it: the choice and the units taken; refused after so many; or no unit was left.
+pub enum Answer {
+    Chosen(Choice, u64),
+    Refused(u64),
+    Spent,
+}
+
+// What was done before: the nearest so far, the units taken, and those of the hint's run, which are charged again at the end.
 pub struct Lead {
     pub best: Best,
     pub taken: u64,
@@ -45,9 +57,9 @@ pub fn invert_nurbs(
     hint: Hint,
     tolerance: f64,
     budget: u64,
-) -> Outcome
+) -> Answer
     requires { ⌜ Accepts (surfaceOf (accepted .shape) ku kv controls weights) accepted × Finite mark ⌝ }
-    ensures { λ r. ⌜ r ≡ outcomeOf (spend budget (inversionBy (atEntry (accepted .shape) ku kv controls weights) (accepted .largest) mark hint tolerance)) ⌝ }
+    ensures { λ r. ⌜ r ≡ answerOf (spend budget (inversionBy (atEntry (accepted .shape) ku kv controls weights) (accepted .largest) mark hint tolerance)) ⌝ }
 {
     let Hint::At(u, v) = hint else {
         let lead = Lead {
@@ -58,14 +70,15 @@ pub fn invert_nurbs(
         return explore(accepted, ku, kv, controls, weights, mark, lead, budget);
     };
     match run(accepted, ku, kv, controls, weights, mark, u, v, budget) {
-        Outcome::Spent => Outcome::Spent,
-        Outcome::Refused(taken) => Outcome::Refused(taken),
+        Outcome::Spent => Answer::Spent,
+        Outcome::Refused(taken) => Answer::Refused(taken),
         Outcome::Ended(end, taken) => {
-            if end.distance <= tolerance {
-                return Outcome::Ended(end, taken);
+            let choice = Choice { end, origin: 0 };
+            if end.at.distance <= tolerance {
+                return Answer::Chosen(choice, taken);
             }
             let lead = Lead {
-                best: Best::At(end),
+                best: Best::At(choice),
                 taken,
                 again: taken,
             };

@@ -1,7 +1,8 @@
 // The runs from the starts, and the nearest of their ends.
+use crate::Answer;
 use crate::Best;
+use crate::Choice;
 use crate::Lead;
-use newton::End;
 use newton::Outcome;
 use newton::run;
 use scaled::Accepted;
@@ -15,34 +16,33 @@ ghost use Rattle.surface.specs.Surface.{evaluateBy};
 ghost use Rattle.surface.specs.Lent.{surfaceOf, atEntry};
 ghost use Rattle.scaled.specs.Accepted.{Accepts};
 ghost use Rattle.shortlist.specs.Insert.{startsIn};
-ghost use Rattle.newton.specs.Run.{outcomeOf};
-ghost use Rattle.inversion.specs.Inversion.{led, choose, searched, kept};
+ghost use Rattle.inversion.specs.Inversion.{led, choose, searched, kept, answerOf};
 
 // Of two ends as far the earlier is kept.
-fn keep(best: Best, end: End) -> Best
-    ensures { λ r. ⌜ r ≡ kept best end ⌝ }
+fn keep(best: Best, choice: Choice) -> Best
+    ensures { λ r. ⌜ r ≡ kept best choice ⌝ }
 {
     let Best::At(nearest) = best else {
-        return Best::At(end);
+        return Best::At(choice);
     };
-    if end.distance < nearest.distance {
-        return Best::At(end);
+    if choice.end.at.distance < nearest.end.at.distance {
+        return Best::At(choice);
     }
-    best
+    Best::At(nearest)
 }
 
-// The end that is kept, for so many units more.
-fn conclude(best: Best, taken: u64, more: u64, budget: u64) -> Outcome
+// What is kept, for so many units more.
+fn conclude(best: Best, taken: u64, more: u64, budget: u64) -> Answer
     requires { ⌜ taken ≤ budget ⌝ }
-    ensures { λ r. ⌜ r ≡ outcomeOf (spend budget (after taken (choose more (led best [])))) ⌝ }
+    ensures { λ r. ⌜ r ≡ answerOf (spend budget (after taken (choose more (led best [])))) ⌝ }
 {
-    let Best::At(end) = best else {
-        return Outcome::Refused(taken);
+    let Best::At(choice) = best else {
+        return Answer::Refused(taken);
     };
     if budget - taken < more {
-        return Outcome::Spent;
+        return Answer::Spent;
     }
-    Outcome::Ended(end, taken + more)
+    Answer::Chosen(choice, taken + more)
 }
 
 // A run from each start.
@@ -56,9 +56,9 @@ pub(crate) fn search(
     starts: Starts,
     lead: Lead,
     budget: u64,
-) -> Outcome
+) -> Answer
     requires { ⌜ Accepts (surfaceOf (accepted .shape) ku kv controls weights) accepted × (starts .count ≤ 6) × (lead .taken ≤ budget) ⌝ }
-    ensures { λ r. ⌜ r ≡ outcomeOf (spend budget (after (lead .taken) (searched (accepted .domain) mark (evaluateBy (atEntry (accepted .shape) ku kv controls weights) (accepted .largest)) (lead .best) (lead .again) (startsIn starts)))) ⌝ }
+    ensures { λ r. ⌜ r ≡ answerOf (spend budget (after (lead .taken) (searched (accepted .domain) mark (evaluateBy (atEntry (accepted .shape) ku kv controls weights) (accepted .largest)) (lead .best) (lead .again) 1 (startsIn starts)))) ⌝ }
 {
     let at = starts.at;
     let mut best = lead.best;
@@ -77,10 +77,11 @@ pub(crate) fn search(
             start.v,
             left,
         ) {
-            Outcome::Spent => return Outcome::Spent,
-            Outcome::Refused(units) => return Outcome::Refused(taken + units),
+            Outcome::Spent => return Answer::Spent,
+            Outcome::Refused(units) => return Answer::Refused(taken + units),
             Outcome::Ended(end, units) => {
-                best = keep(best, end);
+                let origin = (i + 1) as u8;
+                best = keep(best, Choice { end, origin });
                 taken += units;
             }
         }

@@ -18,7 +18,7 @@ use Rattle.surface.specs.Surface.{Surface, orElse, when, scaleOf, refusalOfSurf
 use Rattle.surface.specs.Refusals.{Line, this, next, None, SurfaceLines}
 use Rattle.surface.specs.NumberLaws.{none-one, line-one, Decides, above, tested, numbered}
 use Rattle.price.specs.Price.{Priced, refused, answered, price}
-use Rattle.newton.specs.declared.End.{End}
+use Rattle.inversion.specs.declared.Choice.{Choice}
 use Rattle.chart.specs.declared.Terms.{Terms}
 use Rattle.chart.specs.declared.Placing.{Placing}
 use Rattle.chart.specs.declared.Placing.the-variants as Placing
@@ -51,20 +51,20 @@ passes s = isZero (refusalOfSurface s)
 -- ---- a mark on a surface
 
 -- an evaluation of the steps refused
-abbrev pub Refuses : Priced End → Type 0
+abbrev pub Refuses : Priced Choice → Type 0
 Refuses (refused n) = Unit {0}
 Refuses (answered e n) = ⊥
 
-abbrev isRefused : Priced End → Bool
+abbrev isRefused : Priced Choice → Bool
 isRefused (refused n) = true
 isRefused (answered e n) = false
 
-refuses : (p : Priced End) → Decides (isRefused p) (Refuses p)
+refuses : (p : Priced Choice) → Decides (isRefused p) (Refuses p)
 refuses (refused n) = (λ e. tt, λ e. absurd (true≢false e))
 refuses (answered e n) = (λ e. absurd (false≢true e), λ e h. h)
 
 -- where the checks pass: 8 where the budget is below the price, else 9 where an evaluation refuses
-abbrev workNumber : ℕ → Priced End → ℕ
+abbrev workNumber : ℕ → Priced Choice → ℕ
 workNumber budget p = orElse (when (ltb budget (price p)) 8) (orElse (when (isRefused p) 9) 0)
 
 module _ (s : Surface) (mark : Vector3) (terms : Terms) (budget : ℕ) where
@@ -89,7 +89,7 @@ module _ (s : Surface) (mark : Vector3) (terms : Terms) (budget : ℕ) where
   unfolding Chart.numberOf orElse
   work-number ok sound = by (ltb budget (price (stepsOf s mark terms))) refl
     where
-      told : (p : Priced End) → Chart.numberOf (resultOf terms p) ≡ orElse (when (isRefused p) 9) 0
+      told : (p : Priced Choice) → Chart.numberOf (resultOf terms p) ≡ orElse (when (isRefused p) 9) 0
       told (refused n) = refl
       told (answered e n) = refl
 

@@ -15,18 +15,24 @@ use Rattle.shortlist.specs.SortLaws.{NearestSix}
 use Rattle.seeds.specs.Visits.{gridOf}
 use Rattle.seeds.specs.VisitLaws.{PointsOf}
 use Rattle.price.specs.Price.{Priced, refused, answered, price}
+use Rattle.newton.specs.declared.Iterate.{Iterate}
 use Rattle.newton.specs.declared.End.{End}
 use Rattle.newton.specs.Run.{run}
 use Rattle.newton.specs.RunLaws.{Reached}
+use Rattle.newton.specs.EndLaws.{Meant, end-means}
 use Rattle.inversion.specs.declared.Hint.{Hint}
-use Rattle.inversion.specs.declared.Hint.the-variants.{At}
-use Rattle.inversion.specs.Inversion.{led, inversionBy}
+use Rattle.inversion.specs.declared.Hint.the-variants.{Nothing, At}
+use Rattle.inversion.specs.declared.Choice.{Choice}
+use Rattle.inversion.specs.Inversion.{ofHint, inversionBy}
 use Rattle.inversion.specs.Nearest.{First}
-use Rattle.inversion.specs.InversionLaws.{far, taken, among, hint-taken, pair-held}
-use Rattle.inversion.specs.SurfaceLaws.{InDomain, Paired, Chosen, NoNearer, in-domain, whole-grid, first-six, nearest-end, grid-no-nearer, paired}
+use Rattle.inversion.specs.InversionLaws.{far, candidates, taken, among, hint-taken, pair-held}
+use Rattle.inversion.specs.OriginLaws.{the-hint, the-start}
+use Rattle.inversion.specs.SurfaceLaws as Surfaces
+use Rattle.inversion.specs.SurfaceLaws.{InDomain, Paired, Chosen, NoNearer, From, in-domain, whole-grid, first-six, nearest-end, grid-no-nearer, paired}
+use Rattle.chart.specs.declared.Period.{Period}
 use Rattle.chart.specs.declared.Terms.{Terms}
 use Rattle.chart.specs.declared.Placing.the-variants.{Pair}
-use Rattle.chart.specs.Chart.{soundSearch, turned}
+use Rattle.chart.specs.Chart.{soundSearch, turnedTo, turned}
 use Rattle.inverter.specs.Inverter.{placed}
 use Rattle.inverter.specs.PlacingLaws.{stepsOf, resultOf, answer-enough, answer-short}
 
@@ -40,34 +46,59 @@ module _ (s : Surface) (ok : refusalOfSurface s ≡ 0) (mark : Vector3) (terms :
   runFrom u v = run (domainOf s) mark (evaluateBy s (scaleOf s)) u v
 
   -- "Otherwise it is the nearest of the ends of the hint's run, if any, and of the runs from the first six of the whole grid sorted by distance, equal distances dropped; the hint wins ties, then the earlier."
-  pub record Otherwise (e : End) (n : ℕ) : Type 0 where
-    pub chosen : Chosen s (scaleOf s) mark (terms .tolerance) (terms .hint) e n
+  pub record Otherwise (c : Choice) (n : ℕ) : Type 0 where
+    pub chosen : Chosen s (scaleOf s) mark (terms .tolerance) (terms .hint) c n
     pub grid : PointsOf mark (evaluateBy s (scaleOf s)) (gridOf (valuesOf (axisU s)) (valuesOf (axisV s))) (chosen .points)
     pub starts : NearestSix (chosen .points) (startsOf (chosen .points))
-    pub nearest : First far e (led (chosen .lead) (chosen .others))
+    pub nearest : First far c (candidates (domainOf s) mark (evaluateBy s (scaleOf s)) (valuesOf (axisU s)) (valuesOf (axisV s)) chosen)
     -- "In the second case every grid point is at least as far as the pair, unless the run from the nearest, the first in the grid among equals, was nudged."
-    pub no-nearer : NoNearer s (scaleOf s) mark (chosen .points) e
+    pub no-nearer : NoNearer s (scaleOf s) mark (chosen .points) (c .end)
 
-  pub data Source (e : End) (n : ℕ) : Type 0 where
+  pub data Source (c : Choice) (n : ℕ) : Type 0 where
     -- "the hint run's end where that lies within tolerance"
-    hint-end : {u v : Float} → terms .hint ≡ At u v → runFrom u v ≡ answered e n → le (e .distance) (terms .tolerance) ≡ true → Source e n
-    otherwise : Otherwise e n → Source e n
+    hint-end : {u v : Float} → terms .hint ≡ At u v → runFrom u v ≡ answered (c .end) n → c .origin ≡ 0 → le (c .end .at .distance) (terms .tolerance) ≡ true → Source c n
+    otherwise : Otherwise c n → Source c n
+
+  -- the run that was chosen, from (u, v), and what the name of its end tells
+  pub record Told (c : Choice) : Type 0 where
+    pub u : Float
+    pub v : Float
+    pub made : ℕ
+    pub ran : runFrom u v ≡ answered (c .end) made
+    pub meaning : Meant (domainOf s) mark (evaluateBy s (scaleOf s)) u v (c .end .ending) (c .end .at) made
 
   -- a pair that the call answers with the units it took
-  pub record Shifted (e : End) (n : ℕ) : Type 0 where
-    -- the pair before the shift, which is that of the plain steps
-    pub before : End
+  pub record Shifted (c : Choice) (n : ℕ) : Type 0 where
+    -- that of the plain steps, before the shift
+    pub before : Choice
     pub steps : stepsOf s mark terms ≡ answered before n
-    pub shift : e ≡ turned terms before
+    -- the shift moves the pair alone
+    pub shift : c ≡ turned terms before
+    pub distance : c .end .at .distance ≡ before .end .at .distance
+    pub ending : c .end .ending ≡ before .end .ending
+    pub origin : c .origin ≡ before .origin
     -- it was evaluated, and its distance is the one compared
-    pub reached : Reached (domainOf s) mark (evaluateBy s (scaleOf s)) before
+    pub reached : Reached (domainOf s) mark (evaluateBy s (scaleOf s)) (before .end .at)
     pub source : Source before n
+    -- the run that it came from, and how that ended
+    pub from : From s (scaleOf s) mark (terms .hint) before
+    pub told : Told before
     -- "Before that shift, axes without the periodic flag stay in their knot domain."
-    pub inside-u : InDomain (s .shape .u .periodic) (axisU s) (before .u)
-    pub inside-v : InDomain (s .shape .v .periodic) (axisV s) (before .v)
+    pub inside-u : InDomain (s .shape .u .periodic) (axisU s) (before .end .at .u)
+    pub inside-v : InDomain (s .shape .v .periodic) (axisV s) (before .end .at .v)
 
-  source-of : (hint : Hint) → terms .hint ≡ hint → {e : End} {n : ℕ} → Paired s (scaleOf s) mark (terms .tolerance) hint e n → Source e n
-  source-of hint h (taken p t) = hint-end h p t
+  told-of : (c : Choice) → From s (scaleOf s) mark (terms .hint) c → Told c
+  told-of c (the-hint u v n h r o) = record { u = u; v = v; made = n; ran = r; meaning = end-means (domainOf s) mark (evaluateBy s (scaleOf s)) u v (c .end) n r }
+  told-of c (the-start before a after n h r o sooner all) =
+      record { u = a .u; v = a .v; made = n; ran = r; meaning = end-means (domainOf s) mark (evaluateBy s (scaleOf s)) (a .u) (a .v) (c .end) n r }
+
+  same-distance : (h : Hint) (u v : Period) (p : Iterate) → turnedTo h u v p .distance ≡ p .distance
+  unfolding turnedTo
+  same-distance Nothing u v p = refl
+  same-distance (At a b) u v p = refl
+
+  source-of : (hint : Hint) → terms .hint ≡ hint → {c : Choice} {n : ℕ} → Paired s (scaleOf s) mark (terms .tolerance) hint c n → Source c n
+  source-of hint h (taken p t) = hint-end h p refl t
   source-of hint h (among c) =
       let k = rw (← h) at c in
       otherwise (record {
@@ -78,35 +109,46 @@ module _ (s : Surface) (ok : refusalOfSurface s ≡ 0) (mark : Vector3) (terms :
         no-nearer = grid-no-nearer s (scaleOf s) ok mark finite k;
       })
 
-  by-steps : (p : Priced End) → stepsOf s mark terms ≡ p → (e : End) (n : ℕ) → resultOf terms p ≡ Pair e n → Shifted e n
+  by-steps : (p : Priced Choice) → stepsOf s mark terms ≡ p → (c : Choice) (n : ℕ) → resultOf terms p ≡ Pair c n → Shifted c n
   unfolding inversionBy
-  by-steps (refused k) w e n h = absurd (let z : _≡_ {A = ℕ} 0 1 = cc in omega arith)
-  by-steps (answered a k) w e n h =
+  by-steps (refused k) w c n h = absurd (let z : _≡_ {A = ℕ} 0 1 = cc in omega arith)
+  by-steps (answered a k) w c n h =
       let same : k ≡ n = cc in
+      let turn : c ≡ turned terms a = cc in
+      let from = rw w at (Surfaces.chosen-from s (scaleOf s) ok mark finite (terms .hint) (terms .tolerance)) in
       let d = rw w at (in-domain s (scaleOf s) ok mark (terms .hint) (terms .tolerance)) in
       record {
         before = a;
         steps = rw (← same) w;
-        shift = cc;
+        shift = turn;
+        distance = rw turn (same-distance (terms .hint) (terms .u) (terms .v) (a .end .at));
+        ending = rw turn;
+        origin = rw turn;
         reached = rw w at (pair-held (domainOf s) mark (evaluateBy s (scaleOf s)) (valuesOf (axisU s)) (valuesOf (axisV s)) (terms .hint) (terms .tolerance));
         source = rw (← same) (source-of (terms .hint) refl (rw w at (paired s (scaleOf s) ok mark (terms .hint) (terms .tolerance))));
+        from = from;
+        told = told-of a from;
         inside-u = d .0;
         inside-v = d .1;
       }
 
   -- a pair is that of the plain steps, shifted
-  pub placed-pair : (budget : ℕ) (e : End) (n : ℕ) → placed s mark terms budget ≡ Pair e n → Shifted e n
-  placed-pair budget e n h = by (leb (price (stepsOf s mark terms)) budget) refl
+  pub placed-pair : (budget : ℕ) (c : Choice) (n : ℕ) → placed s mark terms budget ≡ Pair c n → Shifted c n
+  placed-pair budget c n h = by (leb (price (stepsOf s mark terms)) budget) refl
     where
-      by : (t : Bool) → leb (price (stepsOf s mark terms)) budget ≡ t → Shifted e n
-      by true l = by-steps (stepsOf s mark terms) refl e n (rw (answer-enough terms s ok mark sound budget (leb-true _ _ l)) at h)
+      by : (t : Bool) → leb (price (stepsOf s mark terms)) budget ≡ t → Shifted c n
+      by true l = by-steps (stepsOf s mark terms) refl c n (rw (answer-enough terms s ok mark sound budget (leb-true _ _ l)) at h)
       by false l = absurd (let g = rw (answer-short terms s ok mark sound budget (leb-false _ _ l)) at h in let z : _≡_ {A = ℕ} 0 1 = cc in omega arith)
 
   -- and where the hint run's end lies within tolerance, the call answers that end, shifted, for the evaluations of that run
-  pub placed-hint : (u v : Float) → terms .hint ≡ At u v → (e : End) (n : ℕ) → runFrom u v ≡ answered e n → le (e .distance) (terms .tolerance) ≡ true
-      → (budget : ℕ) → n ≤ budget → placed s mark terms budget ≡ Pair (turned terms e) n
+  pub placed-hint : (u v : Float) → terms .hint ≡ At u v → (e : End) (n : ℕ) → runFrom u v ≡ answered e n → le (e .at .distance) (terms .tolerance) ≡ true
+      → (budget : ℕ) → n ≤ budget → placed s mark terms budget ≡ Pair (turned terms (ofHint e)) n
   unfolding inversionBy
   placed-hint u v h e n r t budget l =
       let k = hint-taken (domainOf s) mark (evaluateBy s (scaleOf s)) (valuesOf (axisU s)) (valuesOf (axisV s)) u v (terms .tolerance) e n r t in
-      let w : stepsOf s mark terms ≡ answered e n = rw h k in
+      let w : stepsOf s mark terms ≡ answered (ofHint e) n = rw h k in
       rw w at (answer-enough terms s ok mark sound budget (rw w l))
+
+  -- "whether that run came from the hint or from which of the six starts": the pair before its shift, its distance and its end are those of the run from there, and no end of a smaller number is as near
+  pub chosen-from : (budget : ℕ) (c : Choice) (n : ℕ) (h : placed s mark terms budget ≡ Pair c n) → From s (scaleOf s) mark (terms .hint) (placed-pair budget c n h .before)
+  chosen-from budget c n h = placed-pair budget c n h .from

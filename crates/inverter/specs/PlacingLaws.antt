@@ -19,9 +19,8 @@ use Rattle.price.specs.Price.{Priced, refused, answered, Paid, paid, spend}
 use Rattle.price.specs.Price as Price
 use Rattle.price.specs.PriceLaws.{Between, spend-enough, spend-short}
 use Rattle.price.specs.EvaluationLaws.{Evaluates}
-use Rattle.newton.specs.declared.End.{End}
-use Rattle.newton.specs.Run.{outcomeOf}
-use Rattle.inversion.specs.Inversion.{inversionBy}
+use Rattle.inversion.specs.declared.Choice.{Choice}
+use Rattle.inversion.specs.Inversion.{inversionBy, answerOf}
 use Rattle.inversion.specs.Visits.{evaluationsBy}
 use Rattle.inversion.specs.SurfaceLaws.{price-bounds, price-is-count}
 use Rattle.chart.specs.declared.Terms.{Terms}
@@ -41,41 +40,41 @@ pub record OnePrice (answer : ℕ → Placing) (price : ℕ) (result : Placing) 
   pub short : (budget : ℕ) → budget < price → (numberOf (answer budget) ≡ 8) × (leftOf budget (answer budget) ≡ 0)
 
 -- 01's plain steps, with their price
-abbrev pub stepsOf : Surface → Vector3 → Terms → Priced End
+abbrev pub stepsOf : Surface → Vector3 → Terms → Priced Choice
 stepsOf s mark terms = inversionBy s (scaleOf s) mark (terms .hint) (terms .tolerance)
 
--- their end, shifted by periods; or 9
-abbrev pub resultOf : Terms → Priced End → Placing
+-- what they chose, its pair shifted by periods; or 9
+abbrev pub resultOf : Terms → Priced Choice → Placing
 resultOf terms (refused n) = Refusal 9 n
-resultOf terms (answered e n) = Pair (turned terms e) n
+resultOf terms (answered c n) = Pair (turned terms c) n
 
 module _ (terms : Terms) where
-  paid-result : (budget : ℕ) (p : Priced End) → placingOf budget terms (outcomeOf (paid p)) ≡ resultOf terms p
-  unfolding placingOf outcomeOf
+  paid-result : (budget : ℕ) (p : Priced Choice) → placingOf budget terms (answerOf (paid p)) ≡ resultOf terms p
+  unfolding placingOf answerOf
   paid-result budget (refused n) = refl
-  paid-result budget (answered e n) = refl
+  paid-result budget (answered c n) = refl
 
-  pub result-left : (budget : ℕ) (p : Priced End) → leftOf budget (resultOf terms p) ≡ budget - Price.price p
+  pub result-left : (budget : ℕ) (p : Priced Choice) → leftOf budget (resultOf terms p) ≡ budget - Price.price p
   unfolding leftOf
   result-left budget (refused n) = refl
-  result-left budget (answered e n) = refl
+  result-left budget (answered c n) = refl
 
   module _ (s : Surface) (ok : refusalOfSurface s ≡ 0) (mark : Vector3) (sound : soundSearch mark terms ≡ true) where
-    abbrev steps : Priced End
+    abbrev steps : Priced Choice
     steps = stepsOf s mark terms
 
-    answer-is : (budget : ℕ) → placed s mark terms budget ≡ placingOf budget terms (outcomeOf (spend budget steps))
+    answer-is : (budget : ℕ) → placed s mark terms budget ≡ placingOf budget terms (answerOf (spend budget steps))
     unfolding placed checked judged onChecked placedBy
     answer-is budget = simp (ok, sound)
 
     -- with the price or more the call answers what the plain steps came to
     pub answer-enough : (budget : ℕ) → Price.price steps ≤ budget → placed s mark terms budget ≡ resultOf terms steps
-    answer-enough budget h = answer-is budget ∙ ap (λ (p : Paid End). placingOf budget terms (outcomeOf p)) (spend-enough budget steps h) ∙ paid-result budget steps
+    answer-enough budget h = answer-is budget ∙ ap (λ (p : Paid Choice). placingOf budget terms (answerOf p)) (spend-enough budget steps h) ∙ paid-result budget steps
 
     -- with less it takes all units, and answers 8
     pub answer-short : (budget : ℕ) → budget < Price.price steps → placed s mark terms budget ≡ Refusal 8 budget
-    unfolding placingOf outcomeOf
-    answer-short budget h = answer-is budget ∙ ap (λ (p : Paid End). placingOf budget terms (outcomeOf p)) (spend-short budget steps h)
+    unfolding placingOf answerOf
+    answer-short budget h = answer-is budget ∙ ap (λ (p : Paid Choice). placingOf budget terms (answerOf p)) (spend-short budget steps h)
 
     -- "01's count of evaluations": the price is the number of pairs that the plain steps evaluate, in order; where they are answered all are found, and where not the last is refused and no other
     pub price-counts : Evaluates (evaluateBy s (scaleOf s)) (stepsOf s mark terms) (evaluationsBy s (scaleOf s) mark (terms .hint) (terms .tolerance))
@@ -98,19 +97,19 @@ module _ (Q : Placing → Type 0) (s : Surface) (mark : Vector3) (terms : Terms)
     pub seven : Q (Refusal 7 0)
     pub eight : Q (Refusal 8 budget)
     pub nine : (n : ℕ) → n ≤ budget → Q (Refusal 9 n)
-    pub pair : (m : Float) → checked s ≡ Check.Scale m → (e : End) (n : ℕ) → n ≤ budget → inversionBy s m mark (terms .hint) (terms .tolerance) ≡ answered e n → Q (Pair (turned terms e) n)
+    pub pair : (m : Float) → checked s ≡ Check.Scale m → (c : Choice) (n : ℕ) → n ≤ budget → inversionBy s m mark (terms .hint) (terms .tolerance) ≡ answered c n → Q (Pair (turned terms c) n)
 
   module _ (q : Cases) where
-    paid-by : (m : Float) → checked s ≡ Check.Scale m → (p : Priced End) → inversionBy s m mark (terms .hint) (terms .tolerance) ≡ p → Price.price p ≤ budget → Q (placingOf budget terms (outcomeOf (paid p)))
-    unfolding placingOf outcomeOf
+    paid-by : (m : Float) → checked s ≡ Check.Scale m → (p : Priced Choice) → inversionBy s m mark (terms .hint) (terms .tolerance) ≡ p → Price.price p ≤ budget → Q (placingOf budget terms (answerOf (paid p)))
+    unfolding placingOf answerOf
     paid-by m k (refused n) w h = q .nine n h
-    paid-by m k (answered e n) w h = q .pair m k e n h w
+    paid-by m k (answered c n) w h = q .pair m k c n h w
 
-    spend-by : (m : Float) → checked s ≡ Check.Scale m → (p : Priced End) → inversionBy s m mark (terms .hint) (terms .tolerance) ≡ p → Q (placingOf budget terms (outcomeOf (spend budget p)))
-    unfolding placingOf outcomeOf
+    spend-by : (m : Float) → checked s ≡ Check.Scale m → (p : Priced Choice) → inversionBy s m mark (terms .hint) (terms .tolerance) ≡ p → Q (placingOf budget terms (answerOf (spend budget p)))
+    unfolding placingOf answerOf
     spend-by m k p w = by (leb (Price.price p) budget) refl
       where
-        by : (t : Bool) → leb (Price.price p) budget ≡ t → Q (placingOf budget terms (outcomeOf (spend budget p)))
+        by : (t : Bool) → leb (Price.price p) budget ≡ t → Q (placingOf budget terms (answerOf (spend budget p)))
         by true h = let l = leb-true (Price.price p) budget h in rw (spend-enough budget p l) (paid-by m k p w l)
         by false h = rw (spend-short budget p (leb-false (Price.price p) budget h)) (q .eight)
 
@@ -130,7 +129,7 @@ module _ (Q : Placing → Type 0) (s : Surface) (mark : Vector3) (terms : Terms)
 -- ---- it takes no more than its budget, and its refusal has a number
 
 abbrev pub Numbered : Placing → Type 0
-Numbered (Pair e n) = Unit {0}
+Numbered (Pair c n) = Unit {0}
 Numbered (Refusal number n) = 1 ≤ number
 
 pub refusal-number : (s : Surface) (n : ℕ) → checked s ≡ Check.Refusal n → (refusalOfSurface s ≡ n) × (1 ≤ n)
@@ -149,7 +148,7 @@ placed-sound s mark terms budget =
       seven = (omega arith, omega arith);
       eight = (omega arith, omega arith);
       nine = λ n l. (l, omega arith);
-      pair = λ m k e n l w. (l, tt);
+      pair = λ m k c n l w. (l, tt);
     })
 
 -- ---- the shift by periods

@@ -72,7 +72,7 @@ module _ (bytes : List ℕ) where
         rw (surface-is a b c d ha hb hc hd, hq, w, marks-length n (after shape + 18))
 
 -- the queue read after the surface's numbers, of a file that has room for its marks
-pub queue-fits : (bytes : List ℕ) (at n size room from : ℕ) (q : Queue) → q ≡ queueAt bytes at n → at + 18 + 26 * n ≤ size → from + 55 * (n + 1) ≤ room → Unshifted (q .progress .terms) × Roomy q size from room
+pub queue-fits : (bytes : List ℕ) (at n size room from : ℕ) (q : Queue) → q ≡ queueAt bytes at n → at + 18 + 26 * n ≤ size → from + 57 * (n + 1) ≤ room → Unshifted (q .progress .terms) × Roomy q size from room
 queue-fits bytes at n size room from q e h k = rw e ((refl, refl), (h, k))
 
 -- ---- the printout
@@ -89,7 +89,7 @@ module _ (bytes : List ℕ) (r : Layout) (e : parse bytes ≡ told r bytes) wher
   unfolding printout printed told
   prints-job shape n m = sym (rw (e, m))
 
-pub put-front : {text t x y : List ℕ} {r : ℕ} → text ≡ t → r ≤ 69632 → Put 0 text x y r → (y ≡ t ++ drop r x) × ((r ≡ length t) × (r ≤ 69632))
+pub put-front : {text t x y : List ℕ} {r : ℕ} → text ≡ t → r ≤ 72704 → Put 0 text x y r → (y ≡ t ++ drop r x) × ((r ≡ length t) × (r ≤ 72704))
 unfolding written
 put-front {text} {t} {x} {y} {r} e h p =
     let n : r ≡ length text = omega (arith, p .next-is) in

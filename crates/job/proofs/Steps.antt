@@ -13,14 +13,14 @@ use Rattle.vector3.specs.declared.Vector3.{Vector3}
 use Rattle.domain.specs.declared.Shape.{Shape}
 use Rattle.surface.specs.declared.Checked.the-variants as Check
 use Rattle.surface.specs.Surface.{Surface, surface, orElse, refusalOfSurface, checked}
-use Rattle.newton.specs.declared.End.{End}
+use Rattle.inversion.specs.declared.Choice.{Choice}
 use Rattle.chart.specs.declared.Terms.{Terms}
 use Rattle.chart.specs.Chart.{soundTerms}
 use Rattle.inverter.specs.PlacingLaws.{refusal-number}
 use Rattle.row.specs.declared.Progress.{Progress}
 use Rattle.row.specs.declared.Stepped.{Stepped}
 use Rattle.row.specs.declared.Stepped.the-variants.{Placed, Refusal}
-use Rattle.row.specs.Row.{Rowed, stepped, refusedAt, andThen, inTurn, unlessRefused, rowed}
+use Rattle.row.specs.Row.{Rowed, stepped, refusedAt, andThen, inTurn, unlessRefused, rowed, uOf, vOf, endOf}
 use Rattle.row.specs.RowLaws.{Unshifted, Prints, step-prints}
 use Rattle.job_lines.specs.Lines.{pairLine, refusedLine}
 use Rattle.job_format.specs.Offsets.{markAt, marksAt}
@@ -109,9 +109,9 @@ module _ (s : Surface) (bytes : List ℕ) (first n : ℕ) where
         lines-by : (q : Stepped) → r ≡ q → linesFrom i p ≡ rowLines (andThen i next q)
         lines-by q e = lines-of ∙ ap (λ (q : Stepped). rowLines (andThen i next q)) (sym w ∙ e)
 
-        pub lines-placed : (e : End) (after : Progress) → r ≡ Placed e after → linesFrom i p ≡ stepLine i r ++ linesFrom (i + 1) after
+        pub lines-placed : (c : Choice) (after : Progress) → r ≡ Placed c after → linesFrom i p ≡ stepLine i r ++ linesFrom (i + 1) after
         unfolding andThen rowLines pairLines stepLine
-        lines-placed e after h = lines-by (Placed e after) h ∙ rw h (append-assoc (pairLine (e .u) (e .v) (after .left)) _ _)
+        lines-placed c after h = lines-by (Placed c after) h ∙ rw h (append-assoc (pairLine (uOf c) (vOf c) (after .left) (endOf c)) _ _)
 
         pub lines-refused : (number left : ℕ) → r ≡ Refusal number left → linesFrom i p ≡ stepLine i r
         unfolding andThen rowLines pairLines lastLine stepLine

@@ -8,17 +8,17 @@ use Rattle.chart.specs.declared.Period.the-variants.{Free}
 use Rattle.chart.specs.declared.Terms.{Terms}
 use Rattle.row.specs.declared.RowEnd.{RowEnd}
 use Rattle.row.specs.declared.RowEnd.the-variants.{Placed, Refusal}
-use Rattle.row.specs.Row.{Entry, Rowed, rowed}
+use Rattle.row.specs.Row.{Entry, Rowed, rowed, uOf, vOf, endOf}
 use Rattle.job_lines.specs.Lines.{marksLine, pairLine, refusedLine}
 use Rattle.job_format.specs.Format.{Read, malformed, read, Job, parse}
 
 -- room for every printout: a job file has at most 1,258 marks
 abbrev pub mostPrinted : ℕ
-mostPrinted = 69632
+mostPrinted = 72704
 
 unfoldable pub pairLines : List Entry → List ℕ
 pairLines [] = []
-pairLines (p ∷ ps) = pairLine (p .end .u) (p .end .v) (p .left) ++ pairLines ps
+pairLines (p ∷ ps) = pairLine (uOf (p .choice)) (vOf (p .choice)) (p .left) (endOf (p .choice)) ++ pairLines ps
 
 -- a refusal is the last line
 unfoldable pub lastLine : RowEnd → List ℕ

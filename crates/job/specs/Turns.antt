@@ -4,6 +4,7 @@ use Prim.Native.Nat.{ℕ, _+_, _*_, _≤_}
 use Rattle.vector3.specs.declared.Vector3.{Vector3}
 use Rattle.row.specs.declared.Stepped.{Stepped}
 use Rattle.row.specs.declared.Stepped.the-variants.{Placed, Refusal}
+use Rattle.row.specs.Row.{uOf, vOf, endOf}
 use Rattle.job_lines.specs.Lines.{longestLine, pairLine, refusedLine}
 use Rattle.job_format.specs.Format.{termsSize, markSize}
 use Rattle.job_format.specs.Offsets.{termsAt, marksAt}
@@ -25,5 +26,5 @@ Roomy q size from room = (q .first + markSize * q .count ≤ size) × (from + lo
 
 -- the line of mark number i
 unfoldable pub stepLine : ℕ → Stepped → List ℕ
-stepLine i (Placed e p) = pairLine (e .u) (e .v) (p .left)
+stepLine i (Placed c p) = pairLine (uOf c) (vOf c) (p .left) (endOf c)
 stepLine i (Refusal number left) = refusedLine number i

@@ -19,8 +19,8 @@ ghost use Rattle.digits.specs.Text.{Put};
 ghost use Rattle.job_format.specs.Offsets.{Fits, jobAt};
 ghost use Rattle.job.specs.Printout.{mostPrinted, jobLines, printout};
 
-// Room for every printout: a job file has at most 1,258 marks, and no line is longer than 55 bytes.
-pub const MOST_PRINTED: usize = 69_632;
+// Room for every printout: a job file has at most 1,258 marks, and no line is longer than 57 bytes.
+pub const MOST_PRINTED: usize = 72_704;
 
 // Prints into the front of the buffer and answers how many bytes.
 pub fn job(bytes: &[u8], out: &mut [u8; MOST_PRINTED]) -> usize

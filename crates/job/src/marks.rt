@@ -3,6 +3,7 @@ use job_format::MARK_SIZE;
 use job_format::mark_at;
 use job_lines::put_pair;
 use job_lines::put_refusal;
+use newton::ending_number;
 use row::Progress;
 use row::Stepped;
 use row::step;
@@ -61,7 +62,12 @@ fn put_step(out: &mut [u8], at: usize, i: usize, stepped: Stepped) -> usize
     ensures { λ r. ⌜ r ≤ at + longestLine ⌝ }
 {
     match stepped {
-        Stepped::Placed(end, next) => put_pair(out, at, end.u, end.v, next.left),
+        Stepped::Placed(choice, next) => {
+            let end = choice.end;
+            let ending = end.ending;
+            let number = ending_number(ending);
+            put_pair(out, at, end.at.u, end.at.v, next.left, number)
+        }
         Stepped::Refusal(number, _) => put_refusal(out, at, number, i),
     }
 }

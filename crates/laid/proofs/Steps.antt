@@ -1,4 +1,4 @@
--- What an evaluation, a pair and a job write. Assumes nothing.
+-- What an evaluation, a pair, an end and a job write. Assumes nothing.
 use mathlib.Core.Path.{_≡_, refl, _∙_}
 use mathlib.Core.List.{List, [], _∷_}
 use Prim.Native.Nat.{ℕ, zero, suc, _-_, _≤_, _<_}
@@ -9,10 +9,14 @@ use lib.Ieee.{Float, nan}
 use Rattle.patch.specs.declared.Jet.{Jet}
 use Rattle.surface.specs.declared.Evaluation.{Evaluation}
 use Rattle.surface.specs.declared.Evaluation.the-variants as Evaluation
+use Rattle.inversion.specs.declared.Choice.{Choice}
+use Rattle.chart.specs.declared.Placing.{Placing}
+use Rattle.chart.specs.declared.Placing.the-variants as Placing
+use Rattle.row.specs.Row.{endOf, originOf}
 use Rattle.digits.specs.Text.{Put, written}
 use Rattle.laid.specs.declared.answers.Answer.{Answer}
 use Rattle.laid.specs.declared.answers.Answer.the-variants.{Pair, Refusal}
-use Rattle.laid.specs.Laid.{Evaluates, Places, Prints, numbersOf, jetInto, answerInto, printoutInto}
+use Rattle.laid.specs.Laid.{Evaluates, Places, Prints, numbersOf, jetInto, endInto, answerInto, printoutInto}
 
 -- ---- an evaluation
 
@@ -65,6 +69,18 @@ laid-pair [] xs l k h = absurd (omega arith)
 laid-pair (b ∷ bs) [] l k h = absurd (omega arith)
 laid-pair (b ∷ bs) (x ∷ []) l k h = absurd (omega arith)
 laid-pair (b ∷ bs) (x ∷ (y ∷ xs)) l k h = rw h refl
+
+-- ---- how a run ended, and where it came from
+
+pub end-kept : (xs : List ℕ) {p : Placing} {n t : ℕ} → p ≡ Placing.Refusal n t → xs ≡ endInto p xs
+unfolding endInto
+end-kept xs h = rw h refl
+
+pub end-told : (xs : List ℕ) {p : Placing} {c : Choice} {t k : ℕ} → 2 ≤ length xs → k ≡ endOf c → p ≡ Placing.Pair c t → set (set xs 0 k) 1 (originOf c) ≡ endInto p xs
+unfolding endInto
+end-told [] l e h = absurd (omega arith)
+end-told (x ∷ []) l e h = absurd (omega arith)
+end-told (x ∷ (y ∷ xs)) l e h = rw (h, e) refl
 
 -- ---- a job
 

@@ -10,6 +10,7 @@ use Rattle.chart.specs.declared.Placing.{Placing}
 use Rattle.chart.specs.declared.Placing.the-variants as Placing
 use Rattle.inverter.specs.declared.Components.{Components}
 use Rattle.inverter.specs.declared.Components.the-variants as Components
+use Rattle.row.specs.Row.{uOf, vOf, endOf, originOf}
 use Rattle.edges.specs.declared.Edge.{Edge}
 use Rattle.edges.specs.declared.Edge.the-variants.{Open, Collapsed}
 use Rattle.edges.specs.declared.Edges.{Edges}
@@ -42,8 +43,13 @@ pub record Places : Type 0 where
   pub pair : List Float
 
 unfoldable pub answerOfPlacing : Placing → Answer
-answerOfPlacing (Placing.Pair e taken) = Pair (e .u) (e .v) taken
+answerOfPlacing (Placing.Pair c taken) = Pair (uOf c) (vOf c) taken
 answerOfPlacing (Placing.Refusal number taken) = Refusal number taken
+
+-- its end and its origin, then all later bytes as they were
+unfoldable pub endInto : Placing → List ℕ → List ℕ
+endInto (Placing.Pair c taken) ended = endOf c ∷ (originOf c ∷ drop 2 ended)
+endInto (Placing.Refusal number taken) ended = ended
 
 -- components are answered for one unit
 unfoldable pub answerOfComponents : Components → Answer

@@ -2,11 +2,12 @@
 use chart::Placing;
 use digits::put;
 use inverter::Components;
+use newton::ending_number;
 use surface::Evaluation;
 ghost use mathlib.Core.Path.{_≡_};
 ghost use Prim.Native.Nat.{_≤_};
 ghost use lib.ListN.{length, getD};
-ghost use Rattle.laid.specs.Laid.{jetInto, answerOfPlacing, answerOfComponents, takenOf, answerInto, printoutInto};
+ghost use Rattle.laid.specs.Laid.{jetInto, answerOfPlacing, answerOfComponents, endInto, takenOf, answerInto, printoutInto};
 
 // Two numbers and the units taken; or the number of a refusal and the units taken.
 pub enum Answer {
@@ -35,12 +36,15 @@ pub fn lay_jet(found: Evaluation, jet: &mut [f64]) -> u64
     }
 }
 
-// The distance is not laid out.
+// The pair alone.
 pub fn answer_of_placing(placing: Placing) -> Answer
     ensures { λ r. ⌜ r ≡ answerOfPlacing placing ⌝ }
 {
     match placing {
-        Placing::Pair(end, taken) => Answer::Pair(end.u, end.v, taken),
+        Placing::Pair(choice, taken) => {
+            let at = choice.end.at;
+            Answer::Pair(at.u, at.v, taken)
+        }
         Placing::Refusal(number, taken) => Answer::Refusal(number, taken),
     }
 }
@@ -53,6 +57,20 @@ pub fn answer_of_components(components: Components) -> Answer
         Components::Along(a, b) => Answer::Pair(a, b, 1),
         Components::Refusal(number, taken) => Answer::Refusal(number, taken),
     }
+}
+
+// How the run ended, and where it came from.
+pub fn lay_end(placing: Placing, ended: &mut [u8])
+    requires { ⌜ 2 ≤ length (now ended) ⌝ }
+    ensures { λ _. ⌜ now (ended .exit) ≡ endInto placing (now (ended .entry)) ⌝ }
+{
+    let Placing::Pair(choice, _) = placing else {
+        return;
+    };
+    let end = choice.end;
+    let ending = end.ending;
+    ended[0] = ending_number(ending);
+    ended[1] = choice.origin;
 }
 
 // The units taken are in the budget.

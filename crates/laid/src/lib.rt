@@ -6,6 +6,7 @@ pub use answers::Answer;
 pub use answers::answer_of_components;
 pub use answers::answer_of_placing;
 pub use answers::lay_answer;
+pub use answers::lay_end;
 pub use answers::lay_jet;
 pub use answers::lay_printout;
 pub use ends::lay_edges;

@@ -23,9 +23,12 @@ pub pair-room : (budget pair : ℕ) {b : Bool} → b ≡ roomy budget pair → b
 unfolding roomy
 pair-room budget pair e h = both-least 1 2 budget pair (sym e ∙ h)
 
-pub inversion-room : (flags hint pu pv budget pair : ℕ) {b : Bool} → b ≡ fitsInversion flags hint pu pv budget pair → b ≡ true → (1 ≤ budget) × (2 ≤ pair)
+pub inversion-room : (flags hint pu pv budget pair ended : ℕ) {b : Bool} → b ≡ fitsInversion flags hint pu pv budget pair ended → b ≡ true → (1 ≤ budget) × (2 ≤ pair) × (2 ≤ ended)
 unfolding fitsInversion
-inversion-room flags hint pu pv budget pair e h = pair-room budget pair refl (right (soundFlags flags && soundOptions hint pu pv) (roomy budget pair) (sym e ∙ h))
+inversion-room flags hint pu pv budget pair ended e h =
+    let t = and-eq-true-iff (soundFlags flags && soundOptions hint pu pv && roomy budget pair) (leb 2 ended) .0 (sym e ∙ h) in
+    let r = pair-room budget pair refl (right (soundFlags flags && soundOptions hint pu pv) (roomy budget pair) (t .0)) in
+    (r .0, r .1, leb-true 2 ended (t .1))
 
 pub derivative-room : (flags budget pair : ℕ) {b : Bool} → b ≡ fitsDerivative flags budget pair → b ≡ true → (1 ≤ budget) × (2 ≤ pair)
 unfolding fitsDerivative

@@ -53,8 +53,9 @@ roomyEdges collapsed edges = leb 4 collapsed && leb 20 edges
 unfoldable pub fitsJet : (flags jet : ℕ) → Bool
 fitsJet flags jet = soundFlags flags && leb 9 jet
 
-unfoldable pub fitsInversion : (flags hint pu pv budget pair : ℕ) → Bool
-fitsInversion flags hint pu pv budget pair = soundFlags flags && soundOptions hint pu pv && roomy budget pair
+-- an end and an origin are written too
+unfoldable pub fitsInversion : (flags hint pu pv budget pair ended : ℕ) → Bool
+fitsInversion flags hint pu pv budget pair ended = soundFlags flags && soundOptions hint pu pv && roomy budget pair && leb 2 ended
 
 unfoldable pub fitsRow : (flags hint pu pv budget index : ℕ) → Bool
 fitsRow flags hint pu pv budget index = soundFlags flags && soundOptions hint pu pv && roomyRow budget index

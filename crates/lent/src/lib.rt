@@ -78,10 +78,11 @@ pub fn fits_inversion(
     pv: usize,
     budget: usize,
     pair: usize,
+    ended: usize,
 ) -> bool
-    ensures { λ r. ⌜ r ≡ fitsInversion flags hint pu pv budget pair ⌝ }
+    ensures { λ r. ⌜ r ≡ fitsInversion flags hint pu pv budget pair ended ⌝ }
 {
-    sound_flags(flags) & sound_options(hint, pu, pv) & roomy(budget, pair)
+    sound_flags(flags) & sound_options(hint, pu, pv) & roomy(budget, pair) & (2 <= ended)
 }
 
 pub fn fits_row(flags: u64, hint: usize, pu: usize, pv: usize, budget: usize, index: usize) -> bool

@@ -13,6 +13,8 @@ use Rattle.patch.specs.declared.Jet.{Jet}
 use Rattle.patch.specs.declared.Evaluated.{Evaluated}
 use Rattle.patch.specs.declared.Evaluated.the-variants as Eval
 use Rattle.domain.specs.declared.Domain.{Domain}
+use Rattle.newton.specs.declared.Ending.{Ending}
+use Rattle.newton.specs.declared.Ending.the-variants as Ending
 use Rattle.newton.specs.declared.End.{End}
 use Rattle.newton.specs.declared.Held.{Held}
 use Rattle.newton.specs.declared.Plan.{Plan}
@@ -23,7 +25,7 @@ use Rattle.newton.specs.declared.Outcome.{Outcome}
 use Rattle.newton.specs.declared.Outcome.the-variants.{Ended, Refused, Spent}
 use Rattle.newton.specs.declared.Turn.{Turn}
 use Rattle.newton.specs.declared.Turn.the-variants.{Over, Onto}
-use Rattle.newton.specs.Run.{plan, judge, Round, over, onto, follow, held, settle, weigh, pursue, round, rounds, outcomeOf, turnOf}
+use Rattle.newton.specs.Run.{plan, judge, Round, over, onto, follow, endAt, held, settle, weigh, pursue, round, rounds, outcomeOf, turnOf}
 use Rattle.newton.specs.RunLaws.{rounds-count}
 use Rattle.newton.specs.OutcomeLaws.{ended-told, refused-told, short-told}
 
@@ -33,8 +35,8 @@ use Rattle.newton.specs.OutcomeLaws.{ended-told, refused-told, short-tol
 module _ (d : Domain) (mark : Vector3) (budget n : ℕ) (h : Held) (over-budget : budget < n + 1) where
   settle-spent : (next : Held) (v : Verdict) → Over Spent ≡ turnOf budget n (settle d mark h (n + 1) next v)
   unfolding settle turnOf
-  settle-spent next Further = ap Over (short-told budget (answered (h .end) (n + 1)) over-budget)
-  settle-spent next Last = ap Over (short-told budget (answered (next .end) (n + 1)) over-budget)
+  settle-spent next Further = ap Over (short-told budget (answered (endAt (h .at) Ending.Further) (n + 1)) over-budget)
+  settle-spent next Last = ap Over (short-told budget (answered (endAt (next .at) Ending.SmallStep) (n + 1)) over-budget)
   settle-spent next Onward = simp (lt-leb (suc n) budget (omega arith))
 
   weigh-spent : (c : Bool) (u v : Float) (e : Evaluated) → Over Spent ≡ turnOf budget n (weigh d mark h (n + 1) c u v e)
@@ -51,9 +53,9 @@ module _ (d : Domain) (mark : Vector3) (eval : Float → Float → Evaluated) (b
     unfolding round
     planned = rw w
 
-    pub halted : p ≡ Halt → Over (Ended (h .end) n) ≡ turn
+    pub halted : (how : Ending) → p ≡ Halt how → Over (Ended (endAt (h .at) how) n) ≡ turn
     unfolding pursue turnOf
-    halted f = rw (planned, f) (ap Over (ended-told budget (h .end) n within))
+    halted how f = rw (planned, f) (ap Over (ended-told budget (endAt (h .at) how) n within))
 
     module _ (c : Bool) (u v : Float) (f : p ≡ Probe c u v) where
       probed : round d mark eval n h ≡ weigh d mark h (n + 1) c u v (eval u v)
@@ -68,18 +70,18 @@ module _ (d : Domain) (mark : Vector3) (eval : Float → Float → Evaluated) (b
         unfolding weigh turnOf
         unfound z = rw (probed, ← g, z) (ap Over (refused-told budget (n + 1) (omega arith)))
 
-        module _ (j : Jet) (z : a ≡ Eval.Found j) (next : Held) (l : next ≡ held mark (h .nudged || c) u v j) {t : Verdict} (s : t ≡ judge d (h .end) c (next .end)) where
+        module _ (j : Jet) (z : a ≡ Eval.Found j) (next : Held) (l : next ≡ held mark (h .nudged || c) u v j) {t : Verdict} (s : t ≡ judge d (h .at) c (next .at)) where
           judged : round d mark eval n h ≡ settle d mark h (n + 1) next t
           unfolding weigh
           judged = probed ∙ rw (← g, z, s, l)
 
-          pub further : t ≡ Further → Over (Ended (h .end) (n + 1)) ≡ turn
+          pub further : t ≡ Further → Over (Ended (endAt (h .at) Ending.Further) (n + 1)) ≡ turn
           unfolding settle turnOf
-          further q = rw (judged, q) (ap Over (ended-told budget (h .end) (n + 1) (omega arith)))
+          further q = rw (judged, q) (ap Over (ended-told budget (endAt (h .at) Ending.Further) (n + 1) (omega arith)))
 
-          pub last : t ≡ Last → Over (Ended (next .end) (n + 1)) ≡ turn
+          pub last : t ≡ Last → Over (Ended (endAt (next .at) Ending.SmallStep) (n + 1)) ≡ turn
           unfolding settle turnOf
-          last q = rw (judged, q) (ap Over (ended-told budget (next .end) (n + 1) (omega arith)))
+          last q = rw (judged, q) (ap Over (ended-told budget (endAt (next .at) Ending.SmallStep) (n + 1) (omega arith)))
 
           pub onward : t ≡ Onward → Onto next ≡ turn
           unfolding settle turnOf
@@ -114,11 +116,11 @@ module _ (d : Domain) (mark : Vector3) (eval : Float → Float → Evaluated) (b
       by false q p = absurd (let z : _≡_ {A = ℕ} 0 1 = cc in omega arith)
 
   module _ (r : Priced End) (h : Held) (n : ℕ) (kept : Kept r h n) where
-    pub full : 33 ≤ n → Ended (h .end) n ≡ outcomeOf (spend budget r)
+    pub full : 33 ≤ n → Ended (endAt (h .at) Ending.AllRounds) n ≡ outcomeOf (spend budget r)
     unfolding rounds
     full z =
         let none : 33 - n ≡ 0 = omega arith in
-        rw (kept .2, none) (ended-told budget (h .end) n (kept .1))
+        rw (kept .2, none) (ended-told budget (endAt (h .at) Ending.AllRounds) n (kept .1))
 
     module _ (short : n < 33) {t : Turn} (w : t ≡ turn d mark eval budget h n (kept .1)) where
       more : r ≡ follow (rounds d mark eval (33 - (n + 1)) (n + 1)) (round d mark eval n h)

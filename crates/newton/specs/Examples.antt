@@ -10,6 +10,7 @@ use Rattle.patch.specs.declared.Evaluated.{Evaluated}
 use Rattle.patch.specs.declared.Evaluated.the-variants.{Found}
 use Rattle.price.specs.Price.{answered}
 use Rattle.domain.specs.declared.Domain.{Domain}
+use Rattle.newton.specs.declared.Ending.the-variants.{Unchanged, SecondSingular}
 use Rattle.newton.specs.Run.{run, nudges}
 use Rattle.newton.specs.Visits.{visits}
 use Rattle.newton.specs.Compute.{compute}
@@ -33,7 +34,7 @@ dot u v = Found (record { point = at 0· 0·; u = at 0· 0·; v = at 0· 0· })
 ¾· = ½· ⊕ ¼·
 
 -- one step, and then the pair does not change
-steps : run unit (record { x = ¼·; y = ½·; z = ¾· }) square ½· ½· ≡ answered (record { u = ¼·; v = ½·; distance = ¾· }) 2
+steps : run unit (record { x = ¼·; y = ½·; z = ¾· }) square ½· ½· ≡ answered (record { at = record { u = ¼·; v = ½·; distance = ¾· }; ending = Unchanged }) 2
 unfolding compute unit at square ¼· ¾·
 steps = refl
 
@@ -46,7 +47,7 @@ mark : Vector3
 mark = record { x = fin false 3 (pos 0); y = fin false 1 (pos 2); z = 0· }
 
 -- nudged, and over where it is singular again
-stops : run unit mark dot 0· 0· ≡ answered (record { u = 1e-6 ⊗ ½·; v = 1e-6 ⊗ ½·; distance = fin false 5 (pos 0) }) 2
+stops : run unit mark dot 0· 0· ≡ answered (record { at = record { u = 1e-6 ⊗ ½·; v = 1e-6 ⊗ ½·; distance = fin false 5 (pos 0) }; ending = SecondSingular }) 2
 unfolding compute unit at dot mark
 stops = refl
 

@@ -3,5 +3,6 @@ pub mod Visits
 pub mod Compute
 pub mod RunLaws
 pub mod VisitLaws
+pub mod EndLaws
 pub mod OutcomeLaws
 pub mod Examples

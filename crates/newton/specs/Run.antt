@@ -14,6 +14,9 @@ use Rattle.patch.specs.declared.Evaluated.the-variants as Eval
 use Rattle.patch.specs.Patch.{fromMark}
 use Rattle.domain.specs.declared.Interval.{Interval}
 use Rattle.domain.specs.declared.Domain.{Domain}
+use Rattle.newton.specs.declared.Iterate.{Iterate}
+use Rattle.newton.specs.declared.Ending.{Ending}
+use Rattle.newton.specs.declared.Ending.the-variants as Ending
 use Rattle.newton.specs.declared.End.{End}
 use Rattle.newton.specs.declared.Held.{Held}
 use Rattle.newton.specs.declared.Step.{Step}
@@ -57,33 +60,33 @@ abbrev pub width : Interval → Float
 width i = i .high ⊖ i .low
 
 -- whether a move is at most 1e-15 of the wider domain
-unfoldable pub isSmallStep : Domain → End → End → Bool
+unfoldable pub isSmallStep : Domain → Iterate → Iterate → Bool
 isSmallStep d from to = le (max (abs (to .u ⊖ from .u)) (abs (to .v ⊖ from .v))) (max (width (d .u)) (width (d .v)) ⊗ 1e-15)
 
 -- ---- a round, of a run that was nudged before or not
 
 -- singular: nudged the first time, over the second
-unfoldable pub nudged : Domain → Bool → End → Plan
-nudged d true from = Halt
+unfoldable pub nudged : Domain → Bool → Iterate → Plan
+nudged d true from = Halt Ending.SecondSingular
 nudged d false from = Probe true (clampInto (d .u) (inward (d .u) (from .u))) (clampInto (d .v) (inward (d .v) (from .v)))
 
 -- over where the pair does not change
-unfoldable pub moved : End → Float → Float → Plan
-moved from u v = cond (eq u (from .u) && eq v (from .v)) Halt (Probe false u v)
+unfoldable pub moved : Iterate → Float → Float → Plan
+moved from u v = cond (eq u (from .u) && eq v (from .v)) (Halt Ending.Unchanged) (Probe false u v)
 
 unfoldable pub planBy : Domain → Held → Step → Plan
-planBy d h Singular = nudged d (h .nudged) (h .end)
-planBy d h (By s t) = moved (h .end) (clampInto (d .u) (h .end .u ⊕ s)) (clampInto (d .v) (h .end .v ⊕ t))
+planBy d h Singular = nudged d (h .nudged) (h .at)
+planBy d h (By s t) = moved (h .at) (clampInto (d .u) (h .at .u ⊕ s)) (clampInto (d .v) (h .at .v ⊕ t))
 
 unfoldable pub plan : Domain → Vector3 → Held → Plan
 plan d mark h = planBy d h (stepOf mark (h .jet))
 
 -- a nudge is taken with no test of distance; any other point must not be further, and a small step is the last
-unfoldable pub judge : Domain → End → Bool → End → Verdict
+unfoldable pub judge : Domain → Iterate → Bool → Iterate → Verdict
 judge d from true to = Onward
 judge d from false to = cond (lt (from .distance) (to .distance)) Further (cond (isSmallStep d from to) Last Onward)
 
--- ---- a run: its end, with that pair's distance, or refused; and how many evaluations it made
+-- ---- a run: the pair it ends at, with that pair's distance, and how it ended, or refused; and how many evaluations it made
 
 -- what a round comes to: the run is over, or it goes on
 pub data Round : Type 0 where
@@ -94,24 +97,27 @@ unfoldable pub follow : (Held → Priced End) → Round → Priced End
 follow rest (over r) = r
 follow rest (onto h) = rest h
 
+abbrev pub endAt : Iterate → Ending → End
+endAt at how = record { at = at; ending = how }
+
 -- what a run holds at an evaluated pair
 abbrev pub held : Vector3 → Bool → Float → Float → Jet → Held
-held mark b u v j = record { end = record { u = u; v = v; distance = fromMark mark j }; jet = j; nudged = b }
+held mark b u v j = record { at = record { u = u; v = v; distance = fromMark mark j }; jet = j; nudged = b }
 
 module _ (d : Domain) (mark : Vector3) where
   -- after n evaluations, the last of them at the next pair
   unfoldable pub settle : Held → ℕ → Held → Verdict → Round
-  settle h n next Further = over (answered (h .end) n)
-  settle h n next Last = over (answered (next .end) n)
+  settle h n next Further = over (answered (endAt (h .at) Ending.Further) n)
+  settle h n next Last = over (answered (endAt (next .at) Ending.SmallStep) n)
   settle h n next Onward = onto next
 
   unfoldable pub weigh : Held → ℕ → Bool → Float → Float → Evaluated → Round
   weigh h n c u v Eval.Refused = over (refused n)
-  weigh h n c u v (Eval.Found j) = let next = held mark (h .nudged || c) u v j in settle h n next (judge d (h .end) c (next .end))
+  weigh h n c u v (Eval.Found j) = let next = held mark (h .nudged || c) u v j in settle h n next (judge d (h .at) c (next .at))
 
   module _ (eval : Float → Float → Evaluated) where
     unfoldable pub pursue : Held → ℕ → Plan → Round
-    pursue h n Halt = over (answered (h .end) n)
+    pursue h n (Halt how) = over (answered (endAt (h .at) how) n)
     pursue h n (Probe c u v) = weigh h (suc n) c u v (eval u v)
 
     -- a round after n evaluations
@@ -120,7 +126,7 @@ module _ (d : Domain) (mark : Vector3) where
 
     -- k rounds more
     unfoldable pub rounds : ℕ → ℕ → Held → Priced End
-    rounds zero n h = answered (h .end) n
+    rounds zero n h = answered (endAt (h .at) Ending.AllRounds) n
     rounds (suc k) n h = follow (rounds k (suc n)) (round n h)
 
     unfoldable pub started : Float → Float → Evaluated → Priced End
@@ -152,6 +158,15 @@ module _ (d : Domain) (mark : Vector3) where
         let a = clampInto (d .u) u in
         let b = clampInto (d .v) v in
         nudgesFrom a b (eval a b)
+
+-- ---- the number of an ending, as it is told
+
+unfoldable pub endingNumber : Ending → ℕ
+endingNumber Ending.Unchanged = 0
+endingNumber Ending.Further = 1
+endingNumber Ending.SmallStep = 2
+endingNumber Ending.SecondSingular = 3
+endingNumber Ending.AllRounds = 4
 
 -- ---- what a budget makes of it, as it is answered
 

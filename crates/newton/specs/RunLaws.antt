@@ -16,14 +16,18 @@ use Rattle.patch.specs.declared.Evaluated.the-variants as Eval
 use Rattle.patch.specs.Patch.{fromMark}
 use Rattle.domain.specs.declared.Interval.{Interval}
 use Rattle.domain.specs.declared.Domain.{Domain}
+use Rattle.newton.specs.declared.Iterate.{Iterate}
+use Rattle.newton.specs.declared.Ending.{Ending}
+use Rattle.newton.specs.declared.Ending.the-variants.{Unchanged, Further, SmallStep, SecondSingular, AllRounds}
 use Rattle.newton.specs.declared.End.{End}
 use Rattle.newton.specs.declared.Held.{Held}
 use Rattle.newton.specs.declared.Step.{Step}
 use Rattle.newton.specs.declared.Step.the-variants.{Singular, By}
 use Rattle.newton.specs.declared.Plan.{Plan}
 use Rattle.newton.specs.declared.Plan.the-variants.{Halt, Probe}
-use Rattle.newton.specs.declared.Verdict.the-variants.{Further, Last, Onward}
-use Rattle.newton.specs.Run.{stepOf, clampInto, inward, isSmallStep, nudged, moved, planBy, plan, judge, Round, over, onto, follow, held, settle, weigh, pursue, round, rounds, started, run, nudgesOn, nudgesIn, nudgesFrom, nudges}
+use Rattle.newton.specs.declared.Verdict.{Verdict}
+use Rattle.newton.specs.declared.Verdict.the-variants as Verdict
+use Rattle.newton.specs.Run.{stepOf, clampInto, inward, isSmallStep, nudged, moved, planBy, plan, judge, Round, over, onto, follow, endAt, held, settle, weigh, pursue, round, rounds, started, run, nudgesOn, nudgesIn, nudgesFrom, nudges}
 
 -- what holds of a run's end, where it has one
 abbrev pub Ends : (End → Type 0) → Priced End → Type 0
@@ -46,9 +50,27 @@ unfolding clampInto clamp
 clamped-inside i t number flag h =
     rw flag (clamp-inside t (i .low) (i .high) (lt t (i .low)) (lt (i .high) t) refl refl (rw flag at number) h)
 
+-- ---- a verdict, read back
+
+-- of a nudge or not, further or not, by a small move or not
+abbrev pub Judged : Verdict → Bool → Bool → Bool → Type 0
+Judged Verdict.Further c further small = (c ≡ false) × (further ≡ true)
+Judged Verdict.Last c further small = (c ≡ false) × (further ≡ false) × (small ≡ true)
+Judged Verdict.Onward c further small = c ≡ false → (further ≡ false) × (small ≡ false)
+
+pub judge-told : (d : Domain) (from : Iterate) (c : Bool) (to : Iterate) → Judged (judge d from c to) c (lt (from .distance) (to .distance)) (isSmallStep d from to)
+unfolding judge
+judge-told d from true to = λ n. absurd (true≢false n)
+judge-told d from false to = by (lt (from .distance) (to .distance)) (isSmallStep d from to)
+  where
+    by : (f s : Bool) → Judged (cond f Verdict.Further (cond s Verdict.Last Verdict.Onward)) false f s
+    by true s = (refl, refl)
+    by false true = (refl, refl, refl)
+    by false false = λ _. (refl, refl)
+
 module _ (d : Domain) (mark : Vector3) (eval : Float → Float → Evaluated) where
   -- an evaluated pair, made from another by `clampInto`, with its distance
-  pub record Reached (e : End) : Type 0 where
+  pub record Reached (e : Iterate) : Type 0 where
     pub jet : Jet
     pub found : eval (e .u) (e .v) ≡ Eval.Found jet
     pub distance : e .distance ≡ fromMark mark jet
@@ -57,78 +79,91 @@ module _ (d : Domain) (mark : Vector3) (eval : Float → Float → Evaluated) wh
     pub clampedU : e .u ≡ clampInto (d .u) fromU
     pub clampedV : e .v ≡ clampInto (d .v) fromV
 
-  -- what a plan can be
-  data Planned : Plan → Type 0 where
-    halts : Planned Halt
-    probes : (c : Bool) (a b : Float) → Planned (Probe c (clampInto (d .u) a) (clampInto (d .v) b))
+  -- ---- what a round can do
 
-  -- what a round can come to after n evaluations
-  data Rounded (n : ℕ) (h : Held) : Round → Type 0 where
-    stays : (m : ℕ) → n ≤ m → m ≤ suc n → Rounded n h (over (answered (h .end) m))
-    refuses : Rounded n h (over (refused (suc n)))
-    lands : (next : Held) → Reached (next .end) → lt (h .end .distance) (next .end .distance) ≡ false → Rounded n h (over (answered (next .end) (suc n)))
-    goes : (next : Held) → Reached (next .end) → (next .nudged ≡ false → lt (h .end .distance) (next .end .distance) ≡ false) → Rounded n h (onto next)
+  abbrev pub targetU : Held → Float → Float
+  targetU h s = clampInto (d .u) (h .at .u ⊕ s)
 
-  unless-planned : (t : Bool) (a b : Float) → Planned (cond t Halt (Probe false (clampInto (d .u) a) (clampInto (d .v) b)))
-  unless-planned true a b = halts
-  unless-planned false a b = probes false a b
+  abbrev pub targetV : Held → Float → Float
+  targetV h t = clampInto (d .v) (h .at .v ⊕ t)
 
-  plan-planned : (h : Held) → Planned (plan d mark h)
+  -- whether a step leads back to the pair
+  abbrev pub stands : Held → Float → Float → Bool
+  stands h s t = eq (targetU h s) (h .at .u) && eq (targetV h t) (h .at .v)
+
+  pub data Planned (h : Held) : Plan → Type 0 where
+    settled : (s t : Float) → stepOf mark (h .jet) ≡ By s t → stands h s t ≡ true → Planned h (Halt Unchanged)
+    stuck : stepOf mark (h .jet) ≡ Singular → h .nudged ≡ true → Planned h (Halt SecondSingular)
+    steps : (s t : Float) → stepOf mark (h .jet) ≡ By s t → stands h s t ≡ false → Planned h (Probe false (targetU h s) (targetV h t))
+    nudge : stepOf mark (h .jet) ≡ Singular → h .nudged ≡ false → Planned h (Probe true (clampInto (d .u) (inward (d .u) (h .at .u))) (clampInto (d .v) (inward (d .v) (h .at .v))))
+
+  plan-planned : (h : Held) → Planned h (plan d mark h)
   unfolding plan planBy nudged moved
-  plan-planned h = by (stepOf mark (h .jet))
+  plan-planned h = by (stepOf mark (h .jet)) refl
     where
-      singular : (b : Bool) → Planned (nudged d b (h .end))
-      singular true = halts
-      singular false = probes true (inward (d .u) (h .end .u)) (inward (d .v) (h .end .v))
+      singular : stepOf mark (h .jet) ≡ Singular → (b : Bool) → h .nudged ≡ b → Planned h (nudged d b (h .at))
+      singular e true f = stuck e f
+      singular e false f = nudge e f
 
-      by : (s : Step) → Planned (planBy d h s)
-      by Singular = singular (h .nudged)
-      by (By s t) =
-          let u = clampInto (d .u) (h .end .u ⊕ s) in
-          let v = clampInto (d .v) (h .end .v ⊕ t) in
-          unless-planned (eq u (h .end .u) && eq v (h .end .v)) (h .end .u ⊕ s) (h .end .v ⊕ t)
+      regular : (s t : Float) → stepOf mark (h .jet) ≡ By s t → (b : Bool) → stands h s t ≡ b → Planned h (cond b (Halt Unchanged) (Probe false (targetU h s) (targetV h t)))
+      regular s t e true f = settled s t e f
+      regular s t e false f = steps s t e f
 
-  -- what is held at the pair that `clampInto` makes of (a, b)
-  module _ (a b : Float) (j : Jet) (p : eval (clampInto (d .u) a) (clampInto (d .v) b) ≡ Eval.Found j) where
-    abbrev at : Bool → Held
-    at f = held mark f (clampInto (d .u) a) (clampInto (d .v) b) j
+      by : (s : Step) → stepOf mark (h .jet) ≡ s → Planned h (planBy d h s)
+      by Singular e = singular e (h .nudged) refl
+      by (By s t) e = regular s t e (stands h s t) refl
 
-    reached : (f : Bool) → Reached (at f .end)
-    reached f = record { jet = j; found = p; distance = refl; fromU = a; fromV = b; clampedU = refl; clampedV = refl }
+  -- where an evaluation is made, it is made at a clamped pair
+  abbrev pub Clamped : Plan → Type 0
+  Clamped (Halt how) = Unit {0}
+  Clamped (Probe c a b) = (x : Float) × (y : Float) × (a ≡ clampInto (d .u) x) × (b ≡ clampInto (d .v) y)
 
-    -- what came of the evaluation there
-    module _ (n : ℕ) (h : Held) where
-      settle-rounded : (next : Held) → Reached (next .end) → (f s : Bool) → lt (h .end .distance) (next .end .distance) ≡ f
-          → Rounded n h (settle d mark h (suc n) next (cond f Further (cond s Last Onward)))
-      unfolding settle
-      settle-rounded next r true s q = stays (suc n) (omega arith) (omega arith)
-      settle-rounded next r false true q = lands next r q
-      settle-rounded next r false false q = goes next r (λ _. q)
+  pub planned-clamped : {h : Held} {p : Plan} → Planned h p → Clamped p
+  planned-clamped (settled s t e f) = tt
+  planned-clamped (stuck e f) = tt
+  planned-clamped {h} (steps s t e f) = (h .at .u ⊕ s, h .at .v ⊕ t, refl, refl)
+  planned-clamped {h} (nudge e f) = (inward (d .u) (h .at .u), inward (d .v) (h .at .v), refl, refl)
 
-      nudge-flagged : (f : Bool) → (f || true) ≡ false → {A : Type 0} → A
-      nudge-flagged true e = absurd (true≢false e)
-      nudge-flagged false e = absurd (true≢false e)
+  -- ---- what a round can come to
 
-      found-rounded : (c : Bool) → Rounded n h (weigh d mark h (suc n) c (clampInto (d .u) a) (clampInto (d .v) b) (Eval.Found j))
-      unfolding weigh settle judge
-      found-rounded true = goes (at (h .nudged || true)) (reached (h .nudged || true)) (λ e. nudge-flagged (h .nudged) e)
-      found-rounded false =
-          let next = at (h .nudged || false) in
-          settle-rounded next (reached (h .nudged || false)) _ (isSmallStep d (h .end) (next .end)) refl
+  -- what a run that holds h would hold next, at (a, b)
+  abbrev pub next : Held → Bool → Float → Float → Jet → Held
+  next h c a b j = held mark (h .nudged || c) a b j
 
-  weigh-rounded : (n : ℕ) (h : Held) (c : Bool) (a b : Float) (r : Evaluated) → eval (clampInto (d .u) a) (clampInto (d .v) b) ≡ r
-      → Rounded n h (weigh d mark h (suc n) c (clampInto (d .u) a) (clampInto (d .v) b) r)
-  unfolding weigh
-  weigh-rounded n h c a b Eval.Refused p = refuses
-  weigh-rounded n h c a b (Eval.Found j) p = found-rounded a b j p n h c
+  abbrev pub judged : Held → Bool → Float → Float → Jet → Verdict
+  judged h c a b j = judge d (h .at) c (next h c a b j .at)
 
-  round-rounded : (n : ℕ) (h : Held) → Rounded n h (round d mark eval n h)
-  unfolding round pursue
-  round-rounded n h = by (plan-planned h)
-    where
-      by : {p : Plan} → Planned p → Rounded n h (pursue d mark eval h n p)
-      by halts = stays n (omega arith) (omega arith)
-      by (probes c a b) = weigh-rounded n h c a b (eval (clampInto (d .u) a) (clampInto (d .v) b)) refl
+  -- after n evaluations
+  pub data Rounded (n : ℕ) (h : Held) : Plan → Round → Type 0 where
+    halts : (how : Ending) → Rounded n h (Halt how) (over (answered (endAt (h .at) how) n))
+    refuses : (c : Bool) (a b : Float) → Rounded n h (Probe c a b) (over (refused (suc n)))
+    returns : (c : Bool) (a b : Float) (j : Jet) → eval a b ≡ Eval.Found j → judged h c a b j ≡ Verdict.Further
+        → Rounded n h (Probe c a b) (over (answered (endAt (h .at) Further) (suc n)))
+    lands : (c : Bool) (a b : Float) (j : Jet) → eval a b ≡ Eval.Found j → judged h c a b j ≡ Verdict.Last
+        → Rounded n h (Probe c a b) (over (answered (endAt (next h c a b j .at) SmallStep) (suc n)))
+    goes : (c : Bool) (a b : Float) (j : Jet) → eval a b ≡ Eval.Found j → judged h c a b j ≡ Verdict.Onward
+        → Rounded n h (Probe c a b) (onto (next h c a b j))
+
+  module _ (n : ℕ) (h : Held) where
+    found-rounded : (c : Bool) (a b : Float) (j : Jet) → eval a b ≡ Eval.Found j → (w : Verdict) → judged h c a b j ≡ w
+        → Rounded n h (Probe c a b) (settle d mark h (suc n) (next h c a b j) w)
+    unfolding settle
+    found-rounded c a b j p Verdict.Further q = returns c a b j p q
+    found-rounded c a b j p Verdict.Last q = lands c a b j p q
+    found-rounded c a b j p Verdict.Onward q = goes c a b j p q
+
+    weigh-rounded : (c : Bool) (a b : Float) (r : Evaluated) → eval a b ≡ r → Rounded n h (Probe c a b) (weigh d mark h (suc n) c a b r)
+    unfolding weigh
+    weigh-rounded c a b Eval.Refused p = refuses c a b
+    weigh-rounded c a b (Eval.Found j) p = found-rounded c a b j p (judged h c a b j) refl
+
+    round-rounded : Rounded n h (plan d mark h) (round d mark eval n h)
+    unfolding round pursue
+    round-rounded = by (plan d mark h)
+      where
+        by : (p : Plan) → Rounded n h p (pursue d mark eval h n p)
+        by (Halt how) = halts how
+        by (Probe c a b) = weigh-rounded c a b (eval a b) refl
 
   -- Induction over the rounds: S is to hold of what a run holds with k rounds to go after n evaluations, and Q of a run that is over.
   module _ (S : ℕ → ℕ → Held → Type 0) (Q : Priced End → Type 0) where
@@ -137,19 +172,28 @@ module _ (d : Domain) (mark : Vector3) (eval : Float → Float → Evaluated) wh
     Next k n (onto h) = S k (suc n) h
 
     -- a round that starts with S
-    abbrev Carries : Type 0
-    Carries = (k n : ℕ) (h : Held) → S (suc k) n h → (r : Round) → round d mark eval n h ≡ r → Rounded n h r → Next k n r
+    abbrev pub Carries : Type 0
+    Carries = (k n : ℕ) (h : Held) → S (suc k) n h → (p : Plan) → plan d mark h ≡ p → Planned h p → (r : Round) → round d mark eval n h ≡ r → Rounded n h p r → Next k n r
 
     follow-next : (rest : Held → Priced End) (k n : ℕ) → ((h : Held) → S k (suc n) h → Q (rest h)) → (r : Round) → Next k n r → Q (follow rest r)
     unfolding follow
     follow-next rest k n f (over r) s = s
     follow-next rest k n f (onto h) s = f h s
 
-    module _ (done : (n : ℕ) (h : Held) → S 0 n h → Q (answered (h .end) n)) (one : Carries) where
-      by-rounds : (k n : ℕ) (h : Held) → S k n h → Q (rounds d mark eval k n h)
+    module _ (done : (n : ℕ) (h : Held) → S 0 n h → Q (answered (endAt (h .at) AllRounds) n)) (one : Carries) where
+      pub by-rounds : (k n : ℕ) (h : Held) → S k n h → Q (rounds d mark eval k n h)
       unfolding rounds
       by-rounds zero n h s = done n h s
-      by-rounds (suc k) n h s = follow-next (rounds d mark eval k (suc n)) k n (by-rounds k (suc n)) _ (one k n h s _ refl (round-rounded n h))
+      by-rounds (suc k) n h s = follow-next (rounds d mark eval k (suc n)) k n (by-rounds k (suc n)) _ (one k n h s _ refl (plan-planned h) _ refl (round-rounded n h))
+
+      -- from what a run holds at its clamped start
+      pub by-run : (u v : Float) → ((k : ℕ) → Q (refused k)) → ((j : Jet) → eval (clampInto (d .u) u) (clampInto (d .v) v) ≡ Eval.Found j → S 32 1 (held mark false (clampInto (d .u) u) (clampInto (d .v) v) j)) → Q (run d mark eval u v)
+      unfolding run started
+      by-run u v none first = by (eval (clampInto (d .u) u) (clampInto (d .v) v)) refl
+        where
+          by : (r : Evaluated) → eval (clampInto (d .u) u) (clampInto (d .v) v) ≡ r → Q (started d mark eval (clampInto (d .u) u) (clampInto (d .v) v) r)
+          by Eval.Refused p = none 1
+          by (Eval.Found j) p = by-rounds 32 1 _ (first j p)
 
   -- ---- how many evaluations
 
@@ -161,10 +205,11 @@ module _ (d : Domain) (mark : Vector3) (eval : Float → Float → Evaluated) wh
     Counted r = Between low (price r) high
 
     round-count : Carries Counting Counted
-    round-count k n h s r e (stays m f l) = record { above = omega arith; under = omega arith }
-    round-count k n h s r e refuses = record { above = omega arith; under = omega arith }
-    round-count k n h s r e (lands next p q) = record { above = omega arith; under = omega arith }
-    round-count k n h s r e (goes next p q) = (omega arith, omega arith)
+    round-count k n h s p f l r e (halts how) = record { above = omega arith; under = omega arith }
+    round-count k n h s p f l r e (refuses c a b) = record { above = omega arith; under = omega arith }
+    round-count k n h s p f l r e (returns c a b j g q) = record { above = omega arith; under = omega arith }
+    round-count k n h s p f l r e (lands c a b j g q) = record { above = omega arith; under = omega arith }
+    round-count k n h s p f l r e (goes c a b j g q) = (omega arith, omega arith)
 
   pub rounds-count : (k n : ℕ) (h : Held) → Between n (price (rounds d mark eval k n h)) (n + k)
   rounds-count k n h =
@@ -180,51 +225,60 @@ module _ (d : Domain) (mark : Vector3) (eval : Float → Float → Evaluated) wh
 
   -- ---- where a run ends
 
-  abbrev Holding : ℕ → ℕ → Held → Type 0
-  Holding k n h = Reached (h .end)
+  reached : (c : Bool) (a b : Float) → Clamped (Probe c a b) → (j : Jet) → eval a b ≡ Eval.Found j → (f : Bool) → Reached (held mark f a b j .at)
+  reached c a b l j p f = record { jet = j; found = p; distance = refl; fromU = l .0; fromV = l .1; clampedU = l .2; clampedV = l .3 }
 
-  round-held : Carries Holding (Ends Reached)
-  round-held k n h s r e (stays m f l) = s
-  round-held k n h s r e refuses = tt
-  round-held k n h s r e (lands next p q) = p
-  round-held k n h s r e (goes next p q) = p
+  start-reached : (u v : Float) (j : Jet) → eval (clampInto (d .u) u) (clampInto (d .v) v) ≡ Eval.Found j → Reached (held mark false (clampInto (d .u) u) (clampInto (d .v) v) j .at)
+  start-reached u v j p = reached false _ _ (u, v, refl, refl) j p false
+
+  abbrev Holding : ℕ → ℕ → Held → Type 0
+  Holding k n h = Reached (h .at)
+
+  abbrev EndsReached : Priced End → Type 0
+  EndsReached = Ends (λ e. Reached (e .at))
+
+  round-held : Carries Holding EndsReached
+  round-held k n h s p f l r e (halts how) = s
+  round-held k n h s p f l r e (refuses c a b) = tt
+  round-held k n h s p f l r e (returns c a b j g q) = s
+  round-held k n h s p f l r e (lands c a b j g q) = reached c a b (planned-clamped l) j g (h .nudged || c)
+  round-held k n h s p f l r e (goes c a b j g q) = reached c a b (planned-clamped l) j g (h .nudged || c)
 
   -- a run's end is a pair that was evaluated, with that pair's distance
-  pub run-held : (u v : Float) → Ends Reached (run d mark eval u v)
-  unfolding run started
-  run-held u v = by (eval (clampInto (d .u) u) (clampInto (d .v) v)) refl
-    where
-      by : (r : Evaluated) → eval (clampInto (d .u) u) (clampInto (d .v) v) ≡ r → Ends Reached (started d mark eval (clampInto (d .u) u) (clampInto (d .v) v) r)
-      by Eval.Refused p = tt
-      by (Eval.Found j) p = by-rounds Holding (Ends Reached) (λ n h s. s) round-held 32 1 _ (reached u v j p false)
+  pub run-held : (u v : Float) → EndsReached (run d mark eval u v)
+  run-held u v = by-run Holding EndsReached (λ n h s. s) round-held u v (λ k. tt) (start-reached u v)
 
   -- the evaluation refuses a pair with a NaN in it
   module _ (number : (u v : Float) (j : Jet) → eval u v ≡ Eval.Found j → (isNan u ≡ false) × (isNan v ≡ false)) where
-    reached-inside : (e : End) → Reached e → Inside (d .u) (e .u) × Inside (d .v) (e .v)
+    reached-inside : (e : Iterate) → Reached e → Inside (d .u) (e .u) × Inside (d .v) (e .v)
     reached-inside e r =
         let n = number (e .u) (e .v) (r .jet) (r .found) in
         (rw (r .clampedU) (clamped-inside (d .u) (r .fromU) (rw (r .clampedU) at n .0)), rw (r .clampedV) (clamped-inside (d .v) (r .fromV) (rw (r .clampedV) at n .1)))
 
     -- a run's end lies in the knot domain, on each axis without the flag
-    pub run-in-domain : (u v : Float) → Ends (λ e. Inside (d .u) (e .u) × Inside (d .v) (e .v)) (run d mark eval u v)
-    run-in-domain u v = answers-map _ _ (λ e n r. reached-inside e r) (run d mark eval u v) (run-held u v)
+    pub run-in-domain : (u v : Float) → Ends (λ e. Inside (d .u) (e .at .u) × Inside (d .v) (e .at .v)) (run d mark eval u v)
+    run-in-domain u v = answers-map _ _ (λ e n r. reached-inside (e .at) r) (run d mark eval u v) (run-held u v)
 
   -- ---- how far a run's end is
 
   -- no distance is a NaN
   module _ (number : (u v : Float) (j : Jet) → eval u v ≡ Eval.Found j → isNan (fromMark mark j) ≡ false) where
-    reached-number : {e : End} → Reached e → isNan (e .distance) ≡ false
+    reached-number : {e : Iterate} → Reached e → isNan (e .distance) ≡ false
     reached-number {e} r = rw (r .distance) (number (e .u) (e .v) (r .jet) (r .found))
 
     module _ (e₀ : Float) where
       abbrev Descending : ℕ → ℕ → Held → Type 0
-      Descending k n h = Reached (h .end) × (le (h .end .distance) e₀ ≡ true) × (nudgesIn d mark eval k n h ≡ false)
+      Descending k n h = Reached (h .at) × (le (h .at .distance) e₀ ≡ true) × (nudgesIn d mark eval k n h ≡ false)
 
       abbrev Lower : Priced End → Type 0
-      Lower = Ends (λ e. le (e .distance) e₀ ≡ true)
+      Lower = Ends (λ e. le (e .at .distance) e₀ ≡ true)
 
-      nearer : {a b : End} → Reached a → le (a .distance) e₀ ≡ true → Reached b → lt (a .distance) (b .distance) ≡ false → le (b .distance) e₀ ≡ true
+      nearer : {a b : Iterate} → Reached a → le (a .distance) e₀ ≡ true → Reached b → lt (a .distance) (b .distance) ≡ false → le (b .distance) e₀ ≡ true
       nearer {a} {b} r h r' q = le-trans (b .distance) (a .distance) e₀ (simp (le-not-lt (b .distance) (a .distance) (reached-number r') (reached-number r), q)) h
+
+      flagged : (f c : Bool) → (f || c) ≡ false → c ≡ false
+      flagged true c h = absurd (true≢false h)
+      flagged false c h = h
 
       unflagged : (f rest : Bool) → cond f true rest ≡ false → (f ≡ false) × (rest ≡ false)
       unflagged true rest h = absurd (true≢false h)
@@ -232,19 +286,21 @@ module _ (d : Domain) (mark : Vector3) (eval : Float → Float → Evaluated) wh
 
       round-descends : Carries Descending Lower
       unfolding nudgesIn nudgesOn
-      round-descends k n h s r e (stays m f l) = s .1
-      round-descends k n h s r e refuses = tt
-      round-descends k n h s r e (lands next p q) = nearer (s .0) (s .1) p q
-      round-descends k n h s r e (goes next p q) =
-          let still = unflagged (next .nudged) _ (rw e at s .2) in
-          (p, nearer (s .0) (s .1) p (q (still .0)), still .1)
+      round-descends k n h s p f l r e (halts how) = s .1
+      round-descends k n h s p f l r e (refuses c a b) = tt
+      round-descends k n h s p f l r e (returns c a b j g q) = s .1
+      round-descends k n h s p f l r e (lands c a b j g q) = nearer (s .0) (s .1) (reached c a b (planned-clamped l) j g (h .nudged || c)) ((rw q at (judge-told d (h .at) c (next h c a b j .at))) .1)
+      round-descends k n h s p f l r e (goes c a b j g q) =
+          let to = reached c a b (planned-clamped l) j g (h .nudged || c) in
+          let still = unflagged (h .nudged || c) _ (rw e at s .2) in
+          (to, nearer (s .0) (s .1) to ((rw q at (judge-told d (h .at) c (next h c a b j .at))) (flagged (h .nudged) c (still .0)) .0), still .1)
 
     -- unless it is nudged, a run's end is no further than its start
     pub run-descends : (u v : Float) (j : Jet) → eval (clampInto (d .u) u) (clampInto (d .v) v) ≡ Eval.Found j → nudges d mark eval u v ≡ false
-        → Ends (λ e. le (e .distance) (fromMark mark j) ≡ true) (run d mark eval u v)
+        → Ends (λ e. le (e .at .distance) (fromMark mark j) ≡ true) (run d mark eval u v)
     unfolding run started nudges nudgesFrom
     run-descends u v j p h =
         let e₀ = fromMark mark j in
         rw p
         (by-rounds (Descending e₀) (Lower e₀) (λ n h s. s .1) (round-descends e₀) 32 1 _
-        (reached u v j p false, le-refl e₀ (number (clampInto (d .u) u) (clampInto (d .v) v) j p), rw p at h))
+        (start-reached u v j p, le-refl e₀ (number (clampInto (d .u) u) (clampInto (d .v) v) j p), rw p at h))

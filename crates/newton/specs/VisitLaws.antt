@@ -42,8 +42,8 @@ module _ (d : Domain) (mark : Vector3) (eval : Float → Float → Evaluated) wh
   module _ (k n : ℕ) (known : (h : Held) → More (suc n) (rounds d mark eval k (suc n) h) (visitsIn d mark eval k h)) (h : Held) where
     settled : (next : Held) (w : Verdict) → More (suc n) (follow (rounds d mark eval k (suc n)) (settle d mark h (suc n) next w)) (ifOnward w (visitsIn d mark eval k next))
     unfolding follow settle ifOnward
-    settled next Further = no-more (suc n) (h .end)
-    settled next Last = no-more (suc n) (next .end)
+    settled next Further = no-more (suc n) _
+    settled next Last = no-more (suc n) _
     settled next Onward = known next
 
     weighed : (c : Bool) (u v : Float) (e : Evaluated) → eval u v ≡ e
@@ -52,16 +52,16 @@ module _ (d : Domain) (mark : Vector3) (eval : Float → Float → Evaluated) wh
     weighed c u v Refused p = record { count = omega arith; ending = last p }
     weighed c u v (Found j) p =
         let next = held mark (h .nudged || c) u v j in
-        one-found (j, p) (settled next (judge d (h .end) c (next .end)))
+        one-found (j, p) (settled next (judge d (h .at) c (next .at)))
 
     pursued : (p : Plan) → More n (follow (rounds d mark eval k (suc n)) (pursue d mark eval h n p)) (visitsOn d mark eval (visitsIn d mark eval k) h p)
     unfolding follow pursue visitsOn
-    pursued Halt = no-more n (h .end)
+    pursued (Halt how) = no-more n _
     pursued (Probe c u v) = weighed c u v (eval u v) refl
 
   rounds-visits : (k n : ℕ) (h : Held) → More n (rounds d mark eval k n h) (visitsIn d mark eval k h)
   unfolding rounds round visitsIn
-  rounds-visits zero n h = no-more n (h .end)
+  rounds-visits zero n h = no-more n _
   rounds-visits (suc k) n h = pursued k n (rounds-visits k (suc n)) h (plan d mark h)
 
   -- a run's price is the number of pairs that it evaluates; all are found, or the last is refused and no other

@@ -25,11 +25,11 @@ module _ (d : Domain) (mark : Vector3) where
   -- after the evaluation of (u, v)
   unfoldable pub visitsPast : (Held → List Pair) → Held → Bool → Float → Float → Evaluated → List Pair
   visitsPast rest h c u v Refused = []
-  visitsPast rest h c u v (Found j) = let next = held mark (h .nudged || c) u v j in ifOnward (judge d (h .end) c (next .end)) (rest next)
+  visitsPast rest h c u v (Found j) = let next = held mark (h .nudged || c) u v j in ifOnward (judge d (h .at) c (next .at)) (rest next)
 
   module _ (eval : Float → Float → Evaluated) where
     unfoldable pub visitsOn : (Held → List Pair) → Held → Plan → List Pair
-    visitsOn rest h Halt = []
+    visitsOn rest h (Halt how) = []
     visitsOn rest h (Probe c u v) = (u, v) ∷ visitsPast rest h c u v (eval u v)
 
     -- in k rounds more

@@ -1,6 +1,8 @@
 // One run of Gauss-Newton: from a start towards the surface point nearest to a mark.
+mod number;
 mod round;
 
+pub use number::ending_number;
 use patch::Evaluated;
 use patch::Jet;
 use round::clamp_into;
@@ -17,16 +19,31 @@ ghost use Rattle.surface.specs.Lent.{surfaceOf, atEntry};
 ghost use Rattle.scaled.specs.Accepted.{Accepts};
 ghost use Rattle.newton.specs.Run as Run;
 
-// Where a run ends: a pair, with its distance from the mark.
-pub struct End {
+// A pair that a run evaluated, with its distance from the mark.
+pub struct Iterate {
     pub u: f64,
     pub v: f64,
     pub distance: f64,
 }
 
-// What a run holds from round to round: where it would end, the jet there, and whether it was nudged.
+// How a run ended: the next pair was the same, the next point was further, the last step was small, the pair was singular after a nudge, or no round was left.
+pub enum Ending {
+    Unchanged,
+    Further,
+    SmallStep,
+    SecondSingular,
+    AllRounds,
+}
+
+// Where a run ended, and how.
+pub struct End {
+    pub at: Iterate,
+    pub ending: Ending,
+}
+
+// What a run holds from round to round: the pair, the jet there, and whether it was nudged.
 pub struct Held {
-    pub end: End,
+    pub at: Iterate,
     pub jet: Jet,
     pub nudged: bool,
 }
@@ -39,7 +56,7 @@ pub enum Step {
 
 // What a round does: it ends the run, or evaluates at a pair, which may be the nudge.
 pub enum Plan {
-    Halt,
+    Halt(Ending),
     Probe(bool, f64, f64),
 }
 
@@ -81,8 +98,9 @@ fn rounds(
     let mut taken: u64 = 1;
     loop {
         if taken == 33 {
-            let end = held.end;
-            break Outcome::Ended(end, taken);
+            let at = held.at;
+            let ending = Ending::AllRounds;
+            break Outcome::Ended(End { at, ending }, taken);
         }
         match round(
             accepted,

@@ -1,6 +1,8 @@
 // One round: where to evaluate next, and what came of it.
 use crate::End;
+use crate::Ending;
 use crate::Held;
+use crate::Iterate;
 use crate::Outcome;
 use crate::Plan;
 use crate::Step;
@@ -25,17 +27,19 @@ ghost use Prim.Native.Nat.{_≤_};
 ghost use Rattle.surface.specs.Surface.{evaluateBy};
 ghost use Rattle.surface.specs.Lent.{surfaceOf, atEntry};
 ghost use Rattle.scaled.specs.Accepted.{Accepts};
+ghost use Rattle.newton.specs.declared.Outcome.the-variants.{Ended};
+ghost use Rattle.newton.specs.declared.Turn.the-variants.{Over};
 ghost use Rattle.newton.specs.Run as Run;
 
 pub(crate) fn hold(mark: Vector3, nudged: bool, u: f64, v: f64, jet: Jet) -> Held
     ensures { λ r. ⌜ r ≡ Run.held mark nudged u v jet ⌝ }
 {
-    let end = End {
+    let at = Iterate {
         u,
         v,
         distance: distance(jet.point, mark),
     };
-    Held { end, jet, nudged }
+    Held { at, jet, nudged }
 }
 
 // The negation comes before the division.
@@ -80,29 +84,29 @@ fn inward(i: Interval, t: f64) -> f64
     t + 1.0e-6 * (0.5 * (i.low + i.high) - t)
 }
 
-fn is_small_step(d: Domain, from: End, to: End) -> bool
+fn is_small_step(d: Domain, from: Iterate, to: Iterate) -> bool
     ensures { λ r. ⌜ r ≡ Run.isSmallStep d from to ⌝ }
 {
     let span = max(d.u.high - d.u.low, d.v.high - d.v.low);
     max(abs(to.u - from.u), abs(to.v - from.v)) <= span * 1.0e-15
 }
 
-fn nudge(d: Domain, nudged: bool, from: End) -> Plan
+fn nudge(d: Domain, nudged: bool, from: Iterate) -> Plan
     ensures { λ r. ⌜ r ≡ Run.nudged d nudged from ⌝ }
 {
     if nudged {
-        return Plan::Halt;
+        return Plan::Halt(Ending::SecondSingular);
     }
     let u = inward(d.u, from.u);
     let v = inward(d.v, from.v);
     Plan::Probe(true, clamp_into(d.u, u), clamp_into(d.v, v))
 }
 
-fn moved(from: End, u: f64, v: f64) -> Plan
+fn moved(from: Iterate, u: f64, v: f64) -> Plan
     ensures { λ r. ⌜ r ≡ Run.moved from u v ⌝ }
 {
     if u == from.u && v == from.v {
-        return Plan::Halt;
+        return Plan::Halt(Ending::Unchanged);
     }
     Plan::Probe(false, u, v)
 }
@@ -110,7 +114,7 @@ fn moved(from: End, u: f64, v: f64) -> Plan
 fn plan_from(d: Domain, mark: Vector3, held: Held) -> Plan
     ensures { λ r. ⌜ r ≡ Run.plan d mark held ⌝ }
 {
-    let from = held.end;
+    let from = held.at;
     let Step::By(s, t) = step_of(mark, held.jet) else {
         return nudge(d, held.nudged, from);
     };
@@ -122,7 +126,7 @@ fn plan_from(d: Domain, mark: Vector3, held: Held) -> Plan
 }
 
 // A nudge is taken with no test of distance. An equal distance is no further.
-fn judge(d: Domain, from: End, nudge: bool, to: End) -> Verdict
+fn judge(d: Domain, from: Iterate, nudge: bool, to: Iterate) -> Verdict
     ensures { λ r. ⌜ r ≡ Run.judge d from nudge to ⌝ }
 {
     if nudge {
@@ -135,6 +139,13 @@ fn judge(d: Domain, from: End, nudge: bool, to: End) -> Verdict
         return Verdict::Last;
     }
     Verdict::Onward
+}
+
+// The run is over, after so many evaluations.
+fn over(at: Iterate, ending: Ending, taken: u64) -> Turn
+    ensures { λ r. ⌜ r ≡ Over (Ended (Run.endAt at ending) taken) ⌝ }
+{
+    Turn::Over(Outcome::Ended(End { at, ending }, taken))
 }
 
 // Takes a unit where it evaluates, before it does.
@@ -153,22 +164,24 @@ pub(crate) fn round(
     ensures { λ r. ⌜ r ≡ Run.turnOf budget taken (Run.round (accepted .domain) mark (evaluateBy (atEntry (accepted .shape) ku kv controls weights) (accepted .largest)) taken held) ⌝ }
 {
     let domain = accepted.domain;
-    let here = held.end;
-    let Plan::Probe(nudge, u, v) = plan_from(domain, mark, held) else {
-        return Turn::Over(Outcome::Ended(here, taken));
-    };
-    if taken == budget {
-        return Turn::Over(Outcome::Spent);
-    }
-    let units = taken + 1;
-    let Evaluated::Found(jet) = scaled_jet(accepted, ku, kv, controls, weights, u, v) else {
-        return Turn::Over(Outcome::Refused(units));
-    };
-    let next = hold(mark, held.nudged | nudge, u, v, jet);
-    let there = next.end;
-    match judge(domain, here, nudge, there) {
-        Verdict::Further => Turn::Over(Outcome::Ended(here, units)),
-        Verdict::Last => Turn::Over(Outcome::Ended(there, units)),
-        Verdict::Onward => Turn::Onto(next),
+    let here = held.at;
+    match plan_from(domain, mark, held) {
+        Plan::Halt(ending) => over(here, ending, taken),
+        Plan::Probe(nudge, u, v) => {
+            if taken == budget {
+                return Turn::Over(Outcome::Spent);
+            }
+            let units = taken + 1;
+            let Evaluated::Found(jet) = scaled_jet(accepted, ku, kv, controls, weights, u, v) else {
+                return Turn::Over(Outcome::Refused(units));
+            };
+            let next = hold(mark, held.nudged | nudge, u, v, jet);
+            let there = next.at;
+            match judge(domain, here, nudge, there) {
+                Verdict::Further => over(here, Ending::Further, units),
+                Verdict::Last => over(there, Ending::SmallStep, units),
+                Verdict::Onward => Turn::Onto(next),
+            }
+        }
     }
 }

@@ -20,14 +20,14 @@ use Rattle.inverter.specs.Inverter.{placed}
 use Rattle.inverter.specs.Inverter as Inverter
 use Rattle.inverter.specs.Preimage.{derived}
 use Rattle.row.specs.declared.RowEnd.{RowEnd}
-use Rattle.row.specs.Row.{Rowed, rowInto, written, numberOf, indexOf, leftOf}
+use Rattle.row.specs.Row.{Rowed, rowInto, Left, leaving, numberOf, indexOf, leftOf}
 use Rattle.edges.specs.declared.Edges.{Edges}
 use Rattle.edges.specs.Edges.{singular}
 use Rattle.job.specs.Printout.{mostPrinted, printout}
 use Rattle.job.specs.PrintLaws.{front}
 use Rattle.laid.specs.declared.answers.Answer.{Answer}
-use Rattle.laid.specs.Laid.{Evaluates, Places, Tells, Prints, jetInto, answerOfPlacing, answerOfComponents, takenOf, answerInto, firstOf, edgesInto, printoutInto}
-use Rattle.placing.specs.Boundary.{Rows, evaluatesIf, placesIf, rowsIf, tellsIf, printsIf}
+use Rattle.laid.specs.Laid.{Evaluates, Places, Tells, Prints, jetInto, answerOfPlacing, answerOfComponents, endInto, takenOf, answerInto, firstOf, edgesInto, printoutInto}
+use Rattle.placing.specs.Boundary.{Inverts, Rows, evaluatesIf, placesIf, invertsIf, rowsIf, tellsIf, printsIf}
 
 -- ---- an evaluation
 
@@ -59,14 +59,14 @@ module _ (ku kv cs ws : List Float) {s t : Shape} (h : s ≡ t) where
     pub placed-by : (mark : Vector3) (b : ℕ) {p : Placing} → p ≡ placed (surface s ku kv cs ws) mark k b → p ≡ placed (surface t ku kv cs ws) mark l b
     placed-by mark b e = e ∙ ap (λ x. placed (surface x ku kv cs ws) mark k b) h ∙ ap (λ x. placed (surface t ku kv cs ws) mark x b) i
 
-    pub rowed-by : (marks : List Float) (room b : ℕ) → rowInto (surface s ku kv cs ws) marks room k b ≡ rowInto (surface t ku kv cs ws) marks room l b
-    rowed-by marks room b = ap (λ x. rowInto (surface x ku kv cs ws) marks room k b) h ∙ ap (λ x. rowInto (surface t ku kv cs ws) marks room x b) i
+    pub rowed-by : (marks : List Float) (numbers bytes b : ℕ) → rowInto (surface s ku kv cs ws) marks numbers bytes k b ≡ rowInto (surface t ku kv cs ws) marks numbers bytes l b
+    rowed-by marks numbers bytes b = ap (λ x. rowInto (surface x ku kv cs ws) marks numbers bytes k b) h ∙ ap (λ x. rowInto (surface t ku kv cs ws) marks numbers bytes x b) i
 
 -- ---- a pair for units of a budget
 
 placing-taken : (p : Placing) → takenOf (answerOfPlacing p) ≡ Chart.takenOf p
 unfolding answerOfPlacing
-placing-taken (Placing.Pair e n) = refl
+placing-taken (Placing.Pair c n) = refl
 placing-taken (Placing.Refusal number n) = refl
 
 components-taken : (c : Components) → takenOf (answerOfComponents c) ≡ Inverter.takenOf c
@@ -93,23 +93,43 @@ module _ (call : ℕ → Answer) (bs : List ℕ) (xs : List Float) {b fit : Bool
   unfolding placesIf
   fits h q l = rw (sym e ∙ h) (rw (sym q) l)
 
+-- ---- an inversion
+
+abbrev finds : ℕ → List ℕ → List Float → List ℕ → Inverts
+finds number budget pair ended = record { number = number; budget = budget; pair = pair; ended = ended }
+
+same-finds : {n : ℕ} {cs : List ℕ} {ys : List Float} {es : List ℕ} {a : Places} {ds : List ℕ} → leaves n cs ys ≡ a → es ≡ ds → finds n cs ys es ≡ finds (a .number) (a .budget) (a .pair) ds
+same-finds h k = rw (← h, k) refl
+
+module _ (call : ℕ → Placing) (bs : List ℕ) (xs : List Float) (es : List ℕ) {b fit : Bool} (e : b ≡ fit) where
+  pub inversion-unfit : b ≡ false → finds 99 bs xs es ≡ invertsIf fit call bs xs es
+  unfolding invertsIf
+  inversion-unfit h = rw (sym e ∙ h) refl
+
+  pub inversion-fits : b ≡ true → {p : Placing} → p ≡ call (getD bs 0 0) → {a : Answer} → a ≡ answerOfPlacing p → {ds : List ℕ} → ds ≡ endInto p es
+      → {n : ℕ} {cs : List ℕ} {ys : List Float} → leaves n cs ys ≡ answerInto a bs xs → finds n cs ys ds ≡ invertsIf fit call bs xs es
+  unfolding invertsIf
+  inversion-fits h q f g l = rw (sym e ∙ h) (rw (sym q) (same-finds (rw f at l) g))
+
 -- ---- a row
 
-abbrev ends : ℕ → List ℕ → List ℕ → List Float → Rows
-ends number budget index answers = record { number = number; budget = budget; index = index; answers = answers }
+abbrev ends : ℕ → List ℕ → List ℕ → List Float → List ℕ → Rows
+ends number budget index answers ended = record { number = number; budget = budget; index = index; answers = answers; ends = ended }
 
-alike : {k n : ℕ} {bs cs ns ms : List ℕ} {xs ys : List Float} → k ≡ n → bs ≡ cs → ns ≡ ms → xs ≡ ys → ends k bs ns xs ≡ ends n cs ms ys
-alike h i j k = rw h (rw i (rw j (rw k refl)))
+alike : {k n : ℕ} {bs cs ns ms : List ℕ} {xs ys : List Float} {es ds : List ℕ} → k ≡ n → bs ≡ cs → ns ≡ ms → xs ≡ ys → es ≡ ds → ends k bs ns xs es ≡ ends n cs ms ys ds
+alike h i j k l = rw (h, i, j, k, l) refl
 
-module _ (row : ℕ → Rowed) (bs ns : List ℕ) (xs : List Float) {b fit : Bool} (e : b ≡ fit) where
-  pub row-unfit : b ≡ false → ends 99 bs ns xs ≡ rowsIf fit row bs ns xs
+module _ (row : ℕ → Rowed) (bs ns : List ℕ) (xs : List Float) (es : List ℕ) {b fit : Bool} (e : b ≡ fit) where
+  pub row-unfit : b ≡ false → ends 99 bs ns xs es ≡ rowsIf fit row bs ns xs es
   unfolding rowsIf
   row-unfit h = rw (sym e ∙ h) refl
 
-  pub row-fits : b ≡ true → {r : Rowed} → r ≡ row (getD bs 0 0) → {d : RowEnd} {ys : List Float} → (d ≡ r .ended) × (ys ≡ written (r .pairs) xs)
-      → {n : ℕ} {cs ms : List ℕ} → (n ≡ numberOf d) × ((cs ≡ firstOf (leftOf d) bs) × (ms ≡ firstOf (indexOf d) ns)) → ends n cs ms ys ≡ rowsIf fit row bs ns xs
+  pub row-fits : b ≡ true → {r : Rowed} → r ≡ row (getD bs 0 0) → {d : RowEnd} {ys : List Float} {ds : List ℕ} → record { ended = d; answers = ys; ends = ds } ≡ leaving r xs es
+      → {n : ℕ} {cs ms : List ℕ} → (n ≡ numberOf d) × ((cs ≡ firstOf (leftOf d) bs) × (ms ≡ firstOf (indexOf d) ns)) → ends n cs ms ys ds ≡ rowsIf fit row bs ns xs es
   unfolding rowsIf
-  row-fits h q w l = rw (sym e ∙ h) (rw (sym q) (rw (sym (w .0)) (alike (l .0) (l .1 .0) (l .1 .1) (w .1))))
+  row-fits h q w l =
+      rw (sym e ∙ h) (rw (sym q)
+      (rw (← ap (λ (m : Left). m .ended) w) (alike (l .0) (l .1 .0) (l .1 .1) (ap (λ (m : Left). m .answers) w) (ap (λ (m : Left). m .ends) w))))
 
 -- ---- the edges
 

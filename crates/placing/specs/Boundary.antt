@@ -7,17 +7,18 @@ use lib.Ieee.{Float}
 use Rattle.vector3.specs.declared.Vector3.{Vector3}
 use Rattle.surface.specs.declared.Evaluation.{Evaluation}
 use Rattle.surface.specs.Surface.{Surface, evaluated}
+use Rattle.chart.specs.declared.Placing.{Placing}
 use Rattle.inverter.specs.declared.plane.Frame.{Frame}
 use Rattle.inverter.specs.Inverter.{placed}
 use Rattle.inverter.specs.Plane.{placedOn}
 use Rattle.inverter.specs.Preimage.{derived}
-use Rattle.row.specs.Row.{Rowed, rowInto, written, numberOf, indexOf, leftOf}
+use Rattle.row.specs.Row.{Rowed, rowInto, leaving, numberOf, indexOf, leftOf}
 use Rattle.edges.specs.declared.Edges.{Edges}
 use Rattle.edges.specs.Edges.{singular}
 use Rattle.job.specs.Printout.{printout}
 use Rattle.lent.specs.Lent.{termsOf, roomy, fitsJet, fitsInversion, fitsRow, fitsDerivative, fitsEdges, fitsJob}
 use Rattle.laid.specs.declared.answers.Answer.{Answer}
-use Rattle.laid.specs.Laid.{Evaluates, jetInto, Places, answerOfPlacing, answerOfComponents, answerInto, firstOf, Tells, edgesInto, Prints, printoutInto}
+use Rattle.laid.specs.Laid.{Evaluates, jetInto, Places, answerOfPlacing, answerOfComponents, endInto, answerInto, firstOf, Tells, edgesInto, Prints, printoutInto}
 
 abbrev pub vector : Float → Float → Float → Vector3
 vector x y z = record { x = x; y = y; z = z }
@@ -38,9 +39,23 @@ unfoldable pub placesIf : Bool → (ℕ → Answer) → List ℕ → List Float 
 placesIf false call budget pair = record { number = 99; budget = budget; pair = pair }
 placesIf true call budget pair = answerInto (call (getD budget 0 0)) budget pair
 
-unfoldable pub inverts : ℕ → Surface → Vector3 → (hint : List Float) → Float → (pu pv : List Float) → List ℕ → List Float → Places
-inverts flags s mark hint tolerance pu pv budget pair =
-    placesIf (fitsInversion flags (length hint) (length pu) (length pv) (length budget) (length pair)) (λ b. answerOfPlacing (placed s mark (termsOf hint tolerance pu pv) b)) budget pair
+-- and an inversion's two bytes
+pub record Inverts : Type 0 where
+  pub number : ℕ
+  pub budget : List ℕ
+  pub pair : List Float
+  pub ended : List ℕ
+
+unfoldable pub invertsIf : Bool → (ℕ → Placing) → List ℕ → List Float → List ℕ → Inverts
+invertsIf false call budget pair ended = record { number = 99; budget = budget; pair = pair; ended = ended }
+invertsIf true call budget pair ended =
+    let p = call (getD budget 0 0) in
+    let a = answerInto (answerOfPlacing p) budget pair in
+    record { number = a .number; budget = a .budget; pair = a .pair; ended = endInto p ended }
+
+unfoldable pub inverts : ℕ → Surface → Vector3 → (hint : List Float) → Float → (pu pv : List Float) → List ℕ → List Float → List ℕ → Inverts
+inverts flags s mark hint tolerance pu pv budget pair ended =
+    invertsIf (fitsInversion flags (length hint) (length pu) (length pv) (length budget) (length pair) (length ended)) (placed s mark (termsOf hint tolerance pu pv)) budget pair ended
 
 unfoldable pub derives : ℕ → Surface → Float → Float → Vector3 → List ℕ → List Float → Places
 derives flags s u v d budget pair = placesIf (fitsDerivative flags (length budget) (length pair)) (λ b. answerOfComponents (derived s u v d b)) budget pair
@@ -56,16 +71,17 @@ pub record Rows : Type 0 where
   pub budget : List ℕ
   pub index : List ℕ
   pub answers : List Float
+  pub ends : List ℕ
 
-unfoldable pub rowsIf : Bool → (ℕ → Rowed) → List ℕ → List ℕ → List Float → Rows
-rowsIf false row budget index answers = record { number = 99; budget = budget; index = index; answers = answers }
-rowsIf true row budget index answers =
-    let r = row (getD budget 0 0) in
-    record { number = numberOf (r .ended); budget = firstOf (leftOf (r .ended)) budget; index = firstOf (indexOf (r .ended)) index; answers = written (r .pairs) answers }
+unfoldable pub rowsIf : Bool → (ℕ → Rowed) → List ℕ → List ℕ → List Float → List ℕ → Rows
+rowsIf false row budget index answers ends = record { number = 99; budget = budget; index = index; answers = answers; ends = ends }
+rowsIf true row budget index answers ends =
+    let l = leaving (row (getD budget 0 0)) answers ends in
+    record { number = numberOf (l .ended); budget = firstOf (leftOf (l .ended)) budget; index = firstOf (indexOf (l .ended)) index; answers = l .answers; ends = l .ends }
 
-unfoldable pub rows : ℕ → Surface → (marks hint : List Float) → Float → (pu pv : List Float) → List ℕ → List ℕ → List Float → Rows
-rows flags s marks hint tolerance pu pv budget index answers =
-    rowsIf (fitsRow flags (length hint) (length pu) (length pv) (length budget) (length index)) (rowInto s marks (length answers) (termsOf hint tolerance pu pv)) budget index answers
+unfoldable pub rows : ℕ → Surface → (marks hint : List Float) → Float → (pu pv : List Float) → List ℕ → List ℕ → List Float → List ℕ → Rows
+rows flags s marks hint tolerance pu pv budget index answers ends =
+    rowsIf (fitsRow flags (length hint) (length pu) (length pv) (length budget) (length index)) (rowInto s marks (length answers) (length ends) (termsOf hint tolerance pu pv)) budget index answers ends
 
 -- ---- the edges
 

@@ -12,6 +12,7 @@ use laid::answer_of_components;
 use laid::answer_of_placing;
 use laid::lay_answer;
 use laid::lay_edges;
+use laid::lay_end;
 use laid::lay_ended;
 use laid::lay_jet;
 use laid::lay_printout;
@@ -60,7 +61,7 @@ pub extern "C" fn placing_evaluate(
     lay_jet(found, jet)
 }
 
-// The surface point nearest to the mark (x, y, z). A hint is two numbers or none, a period (pu, pv) one or none.
+// The surface point nearest to the mark (x, y, z). A hint is two numbers or none, a period (pu, pv) one or none. How its run ended, and where that came from, are a byte each.
 #[no_mangle]
 pub extern "C" fn placing_invert(
     du: usize,
@@ -81,8 +82,9 @@ pub extern "C" fn placing_invert(
     pv: &[f64],
     budget: &mut [u64],
     pair: &mut [f64],
+    ended: &mut [u8],
 ) -> u64
-    ensures { λ r. ⌜ record { number = r; budget = now (budget .exit); pair = now (pair .exit) } ≡ inverts flags (atEntry (shapeOf du dv nu nv flags) ku kv controls weights) (vector x y z) (now (hint .entry)) tolerance (now (pu .entry)) (now (pv .entry)) (now (budget .entry)) (now (pair .entry)) ⌝ }
+    ensures { λ r. ⌜ record { number = r; budget = now (budget .exit); pair = now (pair .exit); ended = now (ended .exit) } ≡ inverts flags (atEntry (shapeOf du dv nu nv flags) ku kv controls weights) (vector x y z) (now (hint .entry)) tolerance (now (pu .entry)) (now (pv .entry)) (now (budget .entry)) (now (pair .entry)) (now (ended .entry)) ⌝ }
 {
     if !fits_inversion(
         flags,
@@ -91,6 +93,7 @@ pub extern "C" fn placing_invert(
         pv.len(),
         budget.len(),
         pair.len(),
+        ended.len(),
     ) {
         return UNFIT;
     }
@@ -98,10 +101,11 @@ pub extern "C" fn placing_invert(
     let mark = Vector3 { x, y, z };
     let terms = terms_of(hint, tolerance, pu, pv);
     let placing = invert(shape, ku, kv, controls, weights, mark, terms, budget[0]);
+    lay_end(placing, ended);
     lay_answer(answer_of_placing(placing), budget, pair)
 }
 
-// A row of marks, three coordinates each, for two numbers an answer. The index is that of the mark refused, if one was.
+// A row of marks, three coordinates each, for two numbers an answer and two bytes of its end. The index is that of the mark refused, if one was.
 #[no_mangle]
 pub extern "C" fn placing_row(
     du: usize,
@@ -121,8 +125,9 @@ pub extern "C" fn placing_row(
     budget: &mut [u64],
     index: &mut [u64],
     answers: &mut [f64],
+    ends: &mut [u8],
 ) -> u64
-    ensures { λ r. ⌜ record { number = r; budget = now (budget .exit); index = now (index .exit); answers = now (answers .exit) } ≡ rows flags (atEntry (shapeOf du dv nu nv flags) ku kv controls weights) (now (marks .entry)) (now (hint .entry)) tolerance (now (pu .entry)) (now (pv .entry)) (now (budget .entry)) (now (index .entry)) (now (answers .entry)) ⌝ }
+    ensures { λ r. ⌜ record { number = r; budget = now (budget .exit); index = now (index .exit); answers = now (answers .exit); ends = now (ends .exit) } ≡ rows flags (atEntry (shapeOf du dv nu nv flags) ku kv controls weights) (now (marks .entry)) (now (hint .entry)) tolerance (now (pu .entry)) (now (pv .entry)) (now (budget .entry)) (now (index .entry)) (now (answers .entry)) (now (ends .entry)) ⌝ }
 {
     if !fits_row(
         flags,
@@ -145,6 +150,7 @@ pub extern "C" fn placing_row(
         terms_of(hint, tolerance, pu, pv),
         budget[0],
         answers,
+        ends,
     );
     lay_ended(ended, budget, index)
 }

@@ -1,4 +1,4 @@
--- A row of marks on one surface: the pairs that it writes, and how it ends. Definitions only.
+-- A row of marks on one surface: what it writes of each mark that it places, and how it ends. Definitions only.
 use Prim.Native.Nat.{ℕ, zero, suc, _+_, _-_, _*_, _/_, _%_}
 use mathlib.Core.Bool.{Bool, not, _||_}
 use mathlib.Core.List.{List, [], _∷_, _++_}
@@ -7,7 +7,8 @@ use lib.ListN.{length, drop}
 use lib.Ieee.{Float}
 use Rattle.vector3.specs.declared.Vector3.{Vector3}
 use Rattle.surface.specs.Surface.{Surface, orElse, when, refusalOfSurface}
-use Rattle.newton.specs.declared.End.{End}
+use Rattle.newton.specs.Run.{endingNumber}
+use Rattle.inversion.specs.declared.Choice.{Choice}
 use Rattle.inversion.specs.declared.Hint.the-variants.{At}
 use Rattle.chart.specs.declared.Terms.{Terms}
 use Rattle.chart.specs.declared.Placing.{Placing}
@@ -20,9 +21,9 @@ use Rattle.row.specs.declared.Stepped.the-variants.{Placed, Refusal}
 use Rattle.row.specs.declared.RowEnd.{RowEnd}
 use Rattle.row.specs.declared.RowEnd.the-variants as RowEnd
 
--- a mark's end, and the budget left after it
+-- a mark's answer, and the budget left after it
 pub record Entry : Type 0 where
-  pub end : End
+  pub choice : Choice
   pub left : ℕ
 
 -- the entries of the marks placed, and how the row ended
@@ -40,12 +41,12 @@ marksOf (x ∷ (y ∷ (z ∷ rest))) = record { x = x; y = y; z = z } ∷ marksO
 -- ---- one mark
 
 -- the answer is the next mark's hint
-abbrev pub ledBy : Terms → End → Terms
-ledBy t e = record { hint = At (e .u) (e .v); tolerance = t .tolerance; u = t .u; v = t .v }
+abbrev pub ledBy : Terms → Choice → Terms
+ledBy t c = record { hint = At (c .end .at .u) (c .end .at .v); tolerance = t .tolerance; u = t .u; v = t .v }
 
 -- and the budget serves on
 unfoldable pub stepBy : Progress → Placing → Stepped
-stepBy p (Placing.Pair e taken) = Placed e (record { terms = ledBy (p .terms) e; left = p .left - taken })
+stepBy p (Placing.Pair c taken) = Placed c (record { terms = ledBy (p .terms) c; left = p .left - taken })
 stepBy p (Placing.Refusal number taken) = Refusal number (p .left - taken)
 
 unfoldable pub stepped : Surface → Vector3 → Progress → Stepped
@@ -62,7 +63,7 @@ preceded p rest = record { pairs = p ∷ rest .pairs; ended = rest .ended }
 
 -- mark number i was answered
 unfoldable pub andThen : ℕ → (Progress → Rowed) → Stepped → Rowed
-andThen i rest (Placed e p) = preceded (record { end = e; left = p .left }) (rest p)
+andThen i rest (Placed c p) = preceded (record { choice = c; left = p .left }) (rest p)
 andThen i rest (Refusal number left) = refusedAt i number left
 
 -- the marks from number i on
@@ -82,23 +83,46 @@ unfoldable pub rowed : Surface → List Vector3 → Terms → ℕ → Rowed
 rowed s marks terms budget =
     unlessRefused (orElse (refusalOfSurface s) (when (not (soundTerms terms)) 7)) budget (λ left. inTurn s 0 marks (record { terms = terms; left = left }))
 
--- marks not in threes, or an answer buffer under two numbers a mark
-unfoldable pub misfit : ℕ → ℕ → Bool
-misfit coordinates room = not (eqb (coordinates % 3) 0) || ltb room (2 * (coordinates / 3))
+-- marks not in threes, an answer buffer under two numbers a mark, or a buffer of ends under two bytes a mark
+unfoldable pub misfit : ℕ → ℕ → ℕ → Bool
+misfit coordinates numbers bytes = not (eqb (coordinates % 3) 0) || ltb numbers (2 * (coordinates / 3)) || ltb bytes (2 * (coordinates / 3))
 
--- the row itself: the marks' coordinates, and an answer buffer of so many numbers
-unfoldable pub rowInto : Surface → List Float → ℕ → Terms → ℕ → Rowed
-rowInto s coordinates room terms budget = unlessRefused (when (misfit (length coordinates) room) 11) budget (rowed s (marksOf coordinates) terms)
+-- the row itself: the marks' coordinates, and buffers of so many numbers and bytes
+unfoldable pub rowInto : Surface → List Float → ℕ → ℕ → Terms → ℕ → Rowed
+rowInto s coordinates numbers bytes terms budget = unlessRefused (when (misfit (length coordinates) numbers bytes) 11) budget (rowed s (marksOf coordinates) terms)
 
--- ---- the answer buffer
+-- ---- the two buffers
 
-unfoldable pub numbersOf : List Entry → List Float
-numbersOf [] = []
-numbersOf (p ∷ ps) = p .end .u ∷ (p .end .v ∷ numbersOf ps)
+module _ {A : Type 0} (first second : Choice → A) where
+  -- two of each mark placed, in order
+  unfoldable pub listed : List Entry → List A
+  listed [] = []
+  listed (p ∷ ps) = first (p .choice) ∷ (second (p .choice) ∷ listed ps)
 
--- the pairs in order, and all later numbers as they were
-unfoldable pub written : List Entry → List Float → List Float
-written pairs answers = numbersOf pairs ++ drop (2 * length pairs) answers
+  -- and all later ones as they were
+  unfoldable pub written : List Entry → List A → List A
+  written ps buffer = listed ps ++ drop (2 * length ps) buffer
+
+abbrev pub uOf : Choice → Float
+uOf c = c .end .at .u
+
+abbrev pub vOf : Choice → Float
+vOf c = c .end .at .v
+
+abbrev pub endOf : Choice → ℕ
+endOf c = endingNumber (c .end .ending)
+
+abbrev pub originOf : Choice → ℕ
+originOf c = c .origin
+
+-- what a row answers, and what it leaves in the buffers that it is lent: u and v of each mark placed, and its end and origin
+pub record Left : Type 0 where
+  pub ended : RowEnd
+  pub answers : List Float
+  pub ends : List ℕ
+
+abbrev pub leaving : Rowed → List Float → List ℕ → Left
+leaving r answers ends = record { ended = r .ended; answers = written uOf vOf (r .pairs) answers; ends = written endOf originOf (r .pairs) ends }
 
 -- ---- 01's values of how a row ended: its number, 0 where every mark was placed, the index of the mark refused, and the budget left
 

@@ -1,6 +1,6 @@
--- What holds of every row: what it takes, how it ends, and what it leaves of the answer buffer. Assumes nothing.
+-- What holds of every row: what it takes, how it ends, and what it leaves of its buffers. Assumes nothing.
 use mathlib.Core.Path.{_≡_, refl, ap}
-use mathlib.Core.Bool.{Bool, true, false, not}
+use mathlib.Core.Bool.{Bool, true, false, not, _||_}
 use mathlib.Core.List.{List, [], _∷_}
 use Prim.Native.Nat.{ℕ, zero, suc, _+_, _*_, _/_, _%_, _≤_}
 use native.Mathlib.Omega.{arith}
@@ -13,7 +13,8 @@ use Rattle.float64.specs.Order.{neither}
 use Rattle.vector3.specs.declared.Vector3.{Vector3}
 use Rattle.surface.specs.Surface.{Surface}
 use Rattle.surface.specs.SurfaceLaws.{checked-scale}
-use Rattle.newton.specs.declared.End.{End}
+use Rattle.newton.specs.declared.Iterate.{Iterate}
+use Rattle.inversion.specs.declared.Choice.{Choice}
 use Rattle.inversion.specs.declared.Hint.{Hint}
 use Rattle.inversion.specs.declared.Hint.the-variants.{Nothing, At}
 use Rattle.inversion.specs.Nearest.{All}
@@ -28,7 +29,7 @@ use Rattle.inverter.specs.PlacingLaws.{Numbered, placed-sound, placed-by-cases}
 use Rattle.row.specs.declared.Progress.{Progress}
 use Rattle.row.specs.declared.Stepped.{Stepped}
 use Rattle.row.specs.declared.Stepped.the-variants.{Placed, Refusal}
-use Rattle.row.specs.Row.{Entry, Rowed, marksOf, stepBy, stepped, andThen, inTurn, unlessRefused, rowed, misfit, rowInto, numbersOf, written, numberOf, indexOf, leftOf}
+use Rattle.row.specs.Row.{Entry, Rowed, marksOf, stepBy, stepped, andThen, inTurn, unlessRefused, rowed, misfit, rowInto, listed, written, uOf, vOf, endOf, originOf, leaving, numberOf, indexOf, leftOf}
 
 -- ---- how a row ends
 
@@ -42,18 +43,18 @@ pub record Ends (i n budget : ℕ) (r : Rowed) : Type 0 where
 
 -- a step leaves no more than there was
 abbrev Leaves : ℕ → Stepped → Type 0
-Leaves budget (Placed e p) = p .left ≤ budget
+Leaves budget (Placed c p) = p .left ≤ budget
 Leaves budget (Refusal number left) = (1 ≤ number) × (left ≤ budget)
 
 step-leaves : (p : Progress) (g : Placing) → Numbered g → Leaves (p .left) (stepBy p g)
 unfolding stepBy
-step-leaves p (Placing.Pair e t) h = omega arith
+step-leaves p (Placing.Pair c t) h = omega arith
 step-leaves p (Placing.Refusal number t) h = (h, omega arith)
 
 then-ends : (i n budget : ℕ) (rest : Progress → Rowed) → ((p : Progress) → Ends (i + 1) n (p .left) (rest p)) → (g : Stepped) → Leaves budget g → Ends i (suc n) budget (andThen i rest g)
 unfolding andThen numberOf indexOf leftOf
 then-ends i n budget rest more (Refusal number left) h = record { most = omega arith; all = λ z. absurd (omega arith); index = λ z. omega arith; left = h .1 }
-then-ends i n budget rest more (Placed e p) h =
+then-ends i n budget rest more (Placed c p) h =
     let m = more p in
     record { most = omega (arith, m .most); all = λ z. ap suc (m .all z); index = λ z. omega (arith, m .index z); left = omega (arith, m .left) }
 
@@ -74,19 +75,25 @@ module _ (s : Surface) (terms : Terms) (budget : ℕ) where
   unfolding rowed
   rowed-ends marks = unless-ends (length marks) _ budget _ (inTurn-ends s 0 marks (record { terms = terms; left = budget }))
 
-  pub row-ends : (coordinates : List Float) (room : ℕ) → Ends 0 (length (marksOf coordinates)) budget (rowInto s coordinates room terms budget)
+  pub row-ends : (coordinates : List Float) (numbers bytes : ℕ) → Ends 0 (length (marksOf coordinates)) budget (rowInto s coordinates numbers bytes terms budget)
   unfolding rowInto
-  row-ends coordinates room = unless-ends _ _ budget (rowed s (marksOf coordinates) terms) (rowed-ends (marksOf coordinates))
+  row-ends coordinates numbers bytes = unless-ends _ _ budget (rowed s (marksOf coordinates) terms) (rowed-ends (marksOf coordinates))
 
--- ---- the answer buffer
+-- ---- the buffers
 
--- marks in threes, and room for every pair
-pub fits : (coordinates room : ℕ) → misfit coordinates room ≡ false → (coordinates ≡ 3 * (coordinates / 3)) × (2 * (coordinates / 3) ≤ room)
+-- marks in threes, and room for two numbers and two bytes of each
+pub record Fits (coordinates numbers bytes : ℕ) : Type 0 where
+  pub threes : coordinates ≡ 3 * (coordinates / 3)
+  pub pairs : 2 * (coordinates / 3) ≤ numbers
+  pub names : 2 * (coordinates / 3) ≤ bytes
+
+pub fits : (coordinates numbers bytes : ℕ) → misfit coordinates numbers bytes ≡ false → Fits coordinates numbers bytes
 unfolding misfit
-fits coordinates room h =
-    let t = neither (not (eqb (coordinates % 3) 0)) (ltb room (2 * (coordinates / 3))) h in
-    let z : coordinates % 3 ≡ 0 = eqb-true _ _ (not-false _ (t .0)) in
-    (omega arith, ltb-false _ _ (t .1))
+fits coordinates numbers bytes h =
+    let t = neither (not (eqb (coordinates % 3) 0) || ltb numbers (2 * (coordinates / 3))) (ltb bytes (2 * (coordinates / 3))) h in
+    let w = neither (not (eqb (coordinates % 3) 0)) (ltb numbers (2 * (coordinates / 3))) (t .0) in
+    let z : coordinates % 3 ≡ 0 = eqb-true _ _ (not-false _ (w .0)) in
+    record { threes = omega arith; pairs = ltb-false _ _ (w .1); names = ltb-false _ _ (t .1) }
 
 marks-count : (coordinates : List Float) → length (marksOf coordinates) ≡ length coordinates / 3
 unfolding marksOf
@@ -95,52 +102,60 @@ marks-count (x ∷ []) = refl
 marks-count (x ∷ (y ∷ [])) = refl
 marks-count (x ∷ (y ∷ (z ∷ rest))) = omega (arith, marks-count rest)
 
-numbers-count : (ps : List Entry) → length (numbersOf ps) ≡ 2 * length ps
-unfolding numbersOf
-numbers-count [] = refl
-numbers-count (p ∷ ps) = omega (arith, numbers-count ps)
+module _ {A : Type 0} (first second : Choice → A) where
+  listed-count : (ps : List Entry) → length (listed first second ps) ≡ 2 * length ps
+  unfolding listed
+  listed-count [] = refl
+  listed-count (p ∷ ps) = omega (arith, listed-count ps)
 
--- "all later numbers in the buffer keep their bits"
-pub written-later : (ps : List Entry) (xs : List Float) → drop (2 * length ps) (written ps xs) ≡ drop (2 * length ps) xs
-unfolding written
-written-later ps xs = drop-at (numbersOf ps) (drop (2 * length ps) xs) (2 * length ps) (numbers-count ps)
+  -- "all later numbers in the buffer keep their bits"
+  pub written-later : (ps : List Entry) (xs : List A) → drop (2 * length ps) (written first second ps xs) ≡ drop (2 * length ps) xs
+  unfolding written
+  written-later ps xs = drop-at (listed first second ps) (drop (2 * length ps) xs) (2 * length ps) (listed-count ps)
 
-pub written-length : (ps : List Entry) (xs : List Float) → 2 * length ps ≤ length xs → length (written ps xs) ≡ length xs
-unfolding written
-written-length ps xs h = simp (length-append, length-drop, numbers-count) (omega arith)
+  pub written-length : (ps : List Entry) (xs : List A) → 2 * length ps ≤ length xs → length (written first second ps xs) ≡ length xs
+  unfolding written
+  written-length ps xs h = simp (length-append, length-drop, listed-count) (omega arith)
 
 module _ (s : Surface) (coordinates : List Float) (terms : Terms) (budget : ℕ) where
-  eleven-pairs : (room : ℕ) → misfit (length coordinates) room ≡ true → rowInto s coordinates room terms budget .pairs ≡ []
+  eleven-pairs : (numbers bytes : ℕ) → misfit (length coordinates) numbers bytes ≡ true → rowInto s coordinates numbers bytes terms budget .pairs ≡ []
   unfolding rowInto unlessRefused
-  eleven-pairs room h = simp h
+  eleven-pairs numbers bytes h = simp h
 
-  pub row-room : (room : ℕ) → 2 * length (rowInto s coordinates room terms budget .pairs) ≤ room
-  row-room room = by (misfit (length coordinates) room) refl
+  -- there is room for every mark placed
+  pub row-room : (numbers bytes : ℕ) → (2 * length (rowInto s coordinates numbers bytes terms budget .pairs) ≤ numbers) × (2 * length (rowInto s coordinates numbers bytes terms budget .pairs) ≤ bytes)
+  row-room numbers bytes = by (misfit (length coordinates) numbers bytes) refl
     where
-      by : (t : Bool) → misfit (length coordinates) room ≡ t → 2 * length (rowInto s coordinates room terms budget .pairs) ≤ room
-      by true h = rw (eleven-pairs room h) (omega arith)
-      by false h = omega (arith, fits (length coordinates) room h, marks-count coordinates, row-ends s terms budget coordinates room .most)
+      by : (t : Bool) → misfit (length coordinates) numbers bytes ≡ t → (2 * length (rowInto s coordinates numbers bytes terms budget .pairs) ≤ numbers) × (2 * length (rowInto s coordinates numbers bytes terms budget .pairs) ≤ bytes)
+      by true h = rw (eleven-pairs numbers bytes h) (omega arith, omega arith)
+      by false h =
+          let f = fits (length coordinates) numbers bytes h in
+          let m = row-ends s terms budget coordinates numbers bytes .most in
+          (omega (arith, f .pairs, marks-count coordinates, m), omega (arith, f .names, marks-count coordinates, m))
 
-  -- the buffer keeps its length
-  pub row-length : (xs : List Float) → length (written (rowInto s coordinates (length xs) terms budget .pairs) xs) ≡ length xs
-  row-length xs = written-length _ xs (row-room (length xs))
+  -- the buffers keep their lengths
+  pub row-length : (xs : List Float) (bs : List ℕ)
+      → (length (leaving (rowInto s coordinates (length xs) (length bs) terms budget) xs bs .answers) ≡ length xs) × (length (leaving (rowInto s coordinates (length xs) (length bs) terms budget) xs bs .ends) ≡ length bs)
+  row-length xs bs =
+      let r = row-room (length xs) (length bs) in
+      (written-length uOf vOf _ xs (r .0), written-length endOf originOf _ bs (r .1))
 
 -- ---- without periods no pair holds a NaN, so its bits can be printed
 
 abbrev pub Unshifted : Terms → Type 0
 Unshifted t = (t .u ≡ Free) × (t .v ≡ Free)
 
-abbrev pub Numbers : End → Type 0
-Numbers e = (isNan (e .u) ≡ false) × (isNan (e .v) ≡ false)
+abbrev pub Numbers : Iterate → Type 0
+Numbers p = (isNan (p .u) ≡ false) × (isNan (p .v) ≡ false)
 
-turned-numbers : (h : Hint) (e : End) → Numbers e → Numbers (turnedTo h Free Free e)
+turned-numbers : (h : Hint) (p : Iterate) → Numbers p → Numbers (turnedTo h Free Free p)
 unfolding turnedTo shifted
-turned-numbers Nothing e k = k
-turned-numbers (At u v) e k = k
+turned-numbers Nothing p k = k
+turned-numbers (At u v) p k = k
 
--- a step's end, where there is one, and the terms that it hands on
+-- a step's pair, where there is one, and the terms that it hands on
 abbrev pub Prints : Stepped → Type 0
-Prints (Placed e p) = Numbers e × Unshifted (p .terms)
+Prints (Placed c p) = Numbers (c .end .at) × Unshifted (p .terms)
 Prints (Refusal number left) = Unit {0}
 
 module _ (s : Surface) (mark : Vector3) (p : Progress) (free : Unshifted (p .terms)) where
@@ -156,18 +171,18 @@ module _ (s : Surface) (mark : Vector3) (p : Progress) (free : Unshifted (p .ter
         seven = tt;
         eight = tt;
         nine = λ n l. tt;
-        pair = λ m k e n l w.
-            (rw (free .0, free .1) (turned-numbers (p .terms .hint) e (rw w at (pair-number s m (checked-scale s m k .0) mark (p .terms .hint) (p .terms .tolerance)))), free);
+        pair = λ m k c n l w.
+            (rw (free .0, free .1) (turned-numbers (p .terms .hint) (c .end .at) (rw w at (pair-number s m (checked-scale s m k .0) mark (p .terms .hint) (p .terms .tolerance)))), free);
       })
 
 -- of every pair of a row
-abbrev pub Each : (End → Type 0) → List Entry → Type 0
-Each P = All (λ a. P (a .end))
+abbrev pub Each : (Iterate → Type 0) → List Entry → Type 0
+Each P = All (λ a. P (a .choice .end .at))
 
 then-numbers : (i : ℕ) (rest : Progress → Rowed) → ((p : Progress) → Unshifted (p .terms) → Each Numbers (rest p .pairs)) → (g : Stepped) → Prints g → Each Numbers (andThen i rest g .pairs)
 unfolding andThen
 then-numbers i rest more (Refusal number left) h = tt
-then-numbers i rest more (Placed e p) h = (h .0, more p (h .1))
+then-numbers i rest more (Placed c p) h = (h .0, more p (h .1))
 
 inTurn-numbers : (s : Surface) (i : ℕ) (marks : List Vector3) (p : Progress) → Unshifted (p .terms) → Each Numbers (inTurn s i marks p .pairs)
 unfolding inTurn

@@ -5,9 +5,9 @@ mod one;
 use chart::Terms;
 use chart::sound_terms;
 use domain::Shape;
+use inversion::Choice;
 use marks::misfit;
 use marks::place_marks;
-use newton::End;
 pub use one::step;
 use scaled::Acceptance;
 use scaled::Accepted;
@@ -17,7 +17,7 @@ ghost use mathlib.Core.Bool.{false};
 ghost use lib.ListN.{length};
 ghost use Rattle.surface.specs.Lent.{surfaceOf, atEntry};
 ghost use Rattle.scaled.specs.Accepted.{Accepts};
-ghost use Rattle.row.specs.Row.{marksOf, misfit, rowed, rowInto, written};
+ghost use Rattle.row.specs.Row.{marksOf, misfit, rowed, rowInto, leaving};
 
 // What a row carries from mark to mark: the terms, with the answer before for their hint, and the budget left.
 pub struct Progress {
@@ -25,9 +25,9 @@ pub struct Progress {
     pub left: u64,
 }
 
-// One mark: its end, and what is carried on; or the number of a refusal and the budget left.
+// One mark: its answer, and what is carried on; or the number of a refusal and the budget left.
 pub enum Stepped {
-    Placed(End, Progress),
+    Placed(Choice, Progress),
     Refusal(u64, u64),
 }
 
@@ -37,7 +37,7 @@ pub enum RowEnd {
     Refusal(u64, usize, u64),
 }
 
-// Three coordinates a mark, two numbers an answer.
+// Three coordinates a mark; two numbers an answer, and two bytes of how it ended.
 pub fn row(
     shape: Shape,
     ku: &[f64],
@@ -48,11 +48,11 @@ pub fn row(
     terms: Terms,
     budget: u64,
     answers: &mut [f64],
+    ends: &mut [u8],
 ) -> RowEnd
-    ensures { λ r. ⌜ r ≡ rowInto (atEntry shape ku kv controls weights) (now (marks .entry)) (length (now (answers .entry))) terms budget .ended ⌝ }
-    ensures { λ _. ⌜ now (answers .exit) ≡ written (rowInto (atEntry shape ku kv controls weights) (now (marks .entry)) (length (now (answers .entry))) terms budget .pairs) (now (answers .entry)) ⌝ }
+    ensures { λ r. ⌜ record { ended = r; answers = now (answers .exit); ends = now (ends .exit) } ≡ leaving (rowInto (atEntry shape ku kv controls weights) (now (marks .entry)) (length (now (answers .entry))) (length (now (ends .entry))) terms budget) (now (answers .entry)) (now (ends .entry)) ⌝ }
 {
-    if misfit(marks.len(), answers.len()) {
+    if misfit(marks.len(), answers.len(), ends.len()) {
         return RowEnd::Refusal(11, 0, budget);
     }
     match accept(shape, ku, kv, controls, weights) {
@@ -67,6 +67,7 @@ pub fn row(
             terms,
             budget,
             answers,
+            ends,
         ),
     }
 }
@@ -82,10 +83,10 @@ fn row_checked(
     terms: Terms,
     budget: u64,
     answers: &mut [f64],
+    ends: &mut [u8],
 ) -> RowEnd
-    requires { ⌜ Accepts (surfaceOf (accepted .shape) ku kv controls weights) accepted × (misfit (length (now marks)) (length (now answers)) ≡ false) ⌝ }
-    ensures { λ r. ⌜ r ≡ rowed (atEntry (accepted .shape) ku kv controls weights) (marksOf (now (marks .entry))) terms budget .ended ⌝ }
-    ensures { λ _. ⌜ now (answers .exit) ≡ written (rowed (atEntry (accepted .shape) ku kv controls weights) (marksOf (now (marks .entry))) terms budget .pairs) (now (answers .entry)) ⌝ }
+    requires { ⌜ Accepts (surfaceOf (accepted .shape) ku kv controls weights) accepted × (misfit (length (now marks)) (length (now answers)) (length (now ends)) ≡ false) ⌝ }
+    ensures { λ r. ⌜ record { ended = r; answers = now (answers .exit); ends = now (ends .exit) } ≡ leaving (rowed (atEntry (accepted .shape) ku kv controls weights) (marksOf (now (marks .entry))) terms budget) (now (answers .entry)) (now (ends .entry)) ⌝ }
 {
     if !sound_terms(terms) {
         return RowEnd::Refusal(7, 0, budget);
@@ -94,5 +95,15 @@ fn row_checked(
         terms,
         left: budget,
     };
-    place_marks(accepted, ku, kv, controls, weights, marks, first, answers)
+    place_marks(
+        accepted,
+        ku,
+        kv,
+        controls,
+        weights,
+        marks,
+        first,
+        answers,
+        ends,
+    )
 }

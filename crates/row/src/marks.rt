@@ -3,6 +3,7 @@ use crate::Progress;
 use crate::RowEnd;
 use crate::Stepped;
 use crate::one::step;
+use newton::ending_number;
 use scaled::Accepted;
 use vector3::Vector3;
 ghost use mathlib.Core.Path.{_≡_};
@@ -11,13 +12,13 @@ ghost use Prim.Native.Nat.{_+_, _*_, _≤_};
 ghost use lib.ListN.{length};
 ghost use Rattle.surface.specs.Lent.{surfaceOf, atEntry};
 ghost use Rattle.scaled.specs.Accepted.{Accepts};
-ghost use Rattle.row.specs.Row.{marksOf, misfit, stepped, inTurn, written};
+ghost use Rattle.row.specs.Row.{marksOf, misfit, stepped, inTurn, uOf, vOf, endOf, originOf, leaving};
 ghost use Rattle.row.specs.Turns.{markAt, fronted};
 
-pub(crate) fn misfit(coordinates: usize, room: usize) -> bool
-    ensures { λ r. ⌜ r ≡ misfit coordinates room ⌝ }
+pub(crate) fn misfit(coordinates: usize, numbers: usize, bytes: usize) -> bool
+    ensures { λ r. ⌜ r ≡ misfit coordinates numbers bytes ⌝ }
 {
-    (coordinates % 3 != 0) | (room < 2 * (coordinates / 3))
+    (coordinates % 3 != 0) | (numbers < 2 * (coordinates / 3)) | (bytes < 2 * (coordinates / 3))
 }
 
 pub(crate) fn place_marks(
@@ -29,10 +30,10 @@ pub(crate) fn place_marks(
     marks: &[f64],
     first: Progress,
     answers: &mut [f64],
+    ends: &mut [u8],
 ) -> RowEnd
-    requires { ⌜ Accepts (surfaceOf (accepted .shape) ku kv controls weights) accepted × (misfit (length (now marks)) (length (now answers)) ≡ false) ⌝ }
-    ensures { λ r. ⌜ r ≡ inTurn (atEntry (accepted .shape) ku kv controls weights) 0 (marksOf (now (marks .entry))) first .ended ⌝ }
-    ensures { λ _. ⌜ now (answers .exit) ≡ written (inTurn (atEntry (accepted .shape) ku kv controls weights) 0 (marksOf (now (marks .entry))) first .pairs) (now (answers .entry)) ⌝ }
+    requires { ⌜ Accepts (surfaceOf (accepted .shape) ku kv controls weights) accepted × (misfit (length (now marks)) (length (now answers)) (length (now ends)) ≡ false) ⌝ }
+    ensures { λ r. ⌜ record { ended = r; answers = now (answers .exit); ends = now (ends .exit) } ≡ leaving (inTurn (atEntry (accepted .shape) ku kv controls weights) 0 (marksOf (now (marks .entry))) first) (now (answers .entry)) (now (ends .entry)) ⌝ }
 {
     let mut progress = first;
     for i in 0..marks.len() / 3 {
@@ -47,6 +48,7 @@ pub(crate) fn place_marks(
             mark,
             progress,
             &mut answers[at..],
+            &mut ends[at..],
         ) {
             Stepped::Refusal(number, left) => return RowEnd::Refusal(number, i, left),
             Stepped::Placed(_, next) => progress = next,
@@ -66,7 +68,7 @@ fn mark_at(marks: &[f64], i: usize) -> Vector3
     }
 }
 
-// A pair is written at the front of the rest of the answers.
+// A pair is written at the front of the rest of the answers, its end and origin at that of the rest of the ends.
 fn place_mark(
     accepted: Accepted,
     ku: &[f64],
@@ -75,17 +77,23 @@ fn place_mark(
     weights: &[f64],
     mark: Vector3,
     progress: Progress,
-    rest: &mut [f64],
+    answers: &mut [f64],
+    ends: &mut [u8],
 ) -> Stepped
-    requires { ⌜ Accepts (surfaceOf (accepted .shape) ku kv controls weights) accepted × (2 ≤ length (now rest)) ⌝ }
+    requires { ⌜ Accepts (surfaceOf (accepted .shape) ku kv controls weights) accepted × (2 ≤ length (now answers)) × (2 ≤ length (now ends)) ⌝ }
     ensures { λ r. ⌜ r ≡ stepped (atEntry (accepted .shape) ku kv controls weights) mark progress ⌝ }
-    ensures { λ r. ⌜ now (rest .exit) ≡ fronted r (now (rest .entry)) ⌝ }
+    ensures { λ r. ⌜ now (answers .exit) ≡ fronted uOf vOf r (now (answers .entry)) ⌝ }
+    ensures { λ r. ⌜ now (ends .exit) ≡ fronted endOf originOf r (now (ends .entry)) ⌝ }
 {
     let stepped = step(accepted, ku, kv, controls, weights, mark, progress);
-    let Stepped::Placed(end, _) = stepped else {
+    let Stepped::Placed(choice, _) = stepped else {
         return stepped;
     };
-    rest[0] = end.u;
-    rest[1] = end.v;
+    let end = choice.end;
+    let ending = end.ending;
+    answers[0] = end.at.u;
+    answers[1] = end.at.v;
+    ends[0] = ending_number(ending);
+    ends[1] = choice.origin;
     stepped
 }

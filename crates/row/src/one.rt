@@ -4,8 +4,8 @@ use crate::Stepped;
 use chart::Placing;
 use chart::Terms;
 use chart::invert_checked;
+use inversion::Choice;
 use inversion::Hint;
-use newton::End;
 use scaled::Accepted;
 use vector3::Vector3;
 ghost use mathlib.Core.Path.{_≡_};
@@ -14,13 +14,14 @@ ghost use Rattle.scaled.specs.Accepted.{Accepts};
 ghost use Rattle.row.specs.Row.{ledBy, stepped};
 
 // The answer is the next mark's hint.
-fn led_by(terms: Terms, end: End) -> Terms
-    ensures { λ r. ⌜ r ≡ ledBy terms end ⌝ }
+fn led_by(terms: Terms, choice: Choice) -> Terms
+    ensures { λ r. ⌜ r ≡ ledBy terms choice ⌝ }
 {
+    let at = choice.end.at;
     let u = terms.u;
     let v = terms.v;
     Terms {
-        hint: Hint::At(end.u, end.v),
+        hint: Hint::At(at.u, at.v),
         tolerance: terms.tolerance,
         u,
         v,
@@ -43,10 +44,10 @@ pub fn step(
     let left = progress.left;
     match invert_checked(accepted, ku, kv, controls, weights, mark, terms, left) {
         Placing::Refusal(number, taken) => Stepped::Refusal(number, left - taken),
-        Placing::Pair(end, taken) => Stepped::Placed(
-            end,
+        Placing::Pair(choice, taken) => Stepped::Placed(
+            choice,
             Progress {
-                terms: led_by(terms, end),
+                terms: led_by(terms, choice),
                 left: left - taken,
             },
         ),

@@ -1,8 +1,10 @@
 // Inversions of a surface and of a plane, the shift by a period, and the derivative.
 use chart::Placing;
 use cursor::lend;
+use inversion::Choice;
 use inverter::Components;
 use inverter::Frame;
+use newton::ending_number;
 use search_records::terms_at;
 use surface_records::Lent;
 use tally::Comparison;
@@ -97,9 +99,23 @@ fn vector_at(words: &[u64], at: usize) -> Vector3
 
 fn is_placing(placing: Placing, budget: u64, answer: &[u64]) -> bool {
     match placing {
-        Placing::Pair(end, taken) => is_pair(end.u, end.v, taken, budget, answer),
+        Placing::Pair(choice, taken) => is_choice(choice, taken, budget, answer),
         Placing::Refusal(number, taken) => is_refused(number, taken, budget, answer),
     }
+}
+
+// 0, the units left, then a pair, its end and its origin.
+fn is_choice(choice: Choice, taken: u64, budget: u64, answer: &[u64]) -> bool {
+    if answer.len() != 6 {
+        return false;
+    }
+    let end = choice.end;
+    let ending = end.ending;
+    is_spent(0, taken, budget, answer)
+        && answers::same(end.at.u, answer[2])
+        && answers::same(end.at.v, answer[3])
+        && answer[4] == ending_number(ending) as u64
+        && answer[5] == choice.origin as u64
 }
 
 fn is_components(components: Components, budget: u64, answer: &[u64]) -> bool {

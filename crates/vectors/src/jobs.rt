@@ -27,7 +27,8 @@ pub fn of_job(words: &[u64], bytes: &[u8]) -> Comparison
     one_answer(prints(&bytes[8..8 + size], &bytes[from..from + printed]))
 }
 
-fn words_for(count: usize) -> usize
+// How many words hold so many bytes.
+pub fn words_for(count: usize) -> usize
     ensures { λ r. ⌜ count ≤ 8 * r ⌝ }
 {
     count / 8 + (count % 8 + 7) / 8
@@ -41,7 +42,7 @@ fn prints(file: &[u8], printout: &[u8]) -> bool {
 
 // Whether the first n bytes are the printout.
 fn begins(out: &[u8; MOST_PRINTED], n: usize, printout: &[u8]) -> bool
-    requires { ⌜ n ≤ 69632 ⌝ }
+    requires { ⌜ n ≤ 72704 ⌝ }
 {
     let out: &[u8] = out;
     check::same(&out[0..n], printout)

@@ -9,12 +9,19 @@ use cursor::Cursor;
 use surface_records::lent_surface;
 use tally::Comparison;
 ghost use mathlib.Core.Path.{_≡_};
-ghost use Prim.Native.Nat.{_≤_};
+ghost use Prim.Native.Nat.{_*_, _≤_};
 ghost use lib.ListN.{length};
 
 // A call is handed the surface, the record's numbers, which it is lent from, and the words that follow it.
-pub fn of_surface(kind: u64, words: &[u64], numbers: &[f64], copy: &mut [f64]) -> Comparison
-    requires { ⌜ (length (now words) ≤ 4094) × (length (now numbers) ≡ length (now words)) × (length (now copy) ≡ length (now words)) ⌝ }
+pub fn of_surface(
+    kind: u64,
+    words: &[u64],
+    bytes: &[u8],
+    numbers: &[f64],
+    copy: &mut [f64],
+    names: &mut [u8],
+) -> Comparison
+    requires { ⌜ (length (now words) ≤ 4094) × (length (now bytes) ≡ 8 * length (now words)) × (length (now numbers) ≡ length (now words)) × (length (now copy) ≡ length (now words)) × (length (now names) ≡ 8 * length (now words)) ⌝ }
 {
     let lent = lent_surface(Cursor::start(), words);
     let weights = lent.weights;
@@ -29,7 +36,15 @@ pub fn of_surface(kind: u64, words: &[u64], numbers: &[f64], copy: &mut [f64]) -
         kinds::INVERT => of_invert(lent, numbers, asked),
         kinds::DERIVATIVE => of_derivative(lent, numbers, asked),
         kinds::NURBS_SINGULAR => of_singular(lent, numbers, asked),
-        kinds::ROW => of_row(lent, numbers, asked, &numbers[at..], &mut copy[at..]),
+        kinds::ROW => of_row(
+            lent,
+            numbers,
+            asked,
+            &bytes[8 * at..],
+            &numbers[at..],
+            &mut copy[at..],
+            &mut names[8 * at..],
+        ),
         _ => Comparison::Unread,
     }
 }

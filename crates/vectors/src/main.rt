@@ -67,18 +67,20 @@ fn one_record(tally: Tally) -> Pass {
     let input = next.input;
     let count = next.count;
     let size = 8 * count;
-    // A row's answer buffer is lent from a copy, so that the record's numbers stay as they are.
+    // A row's buffers are lent from copies, so that the record's numbers and bytes stay as they are.
     let mut copy = numbers;
+    let mut names = bytes;
     match input {
         Input::Record => Pass {
             tally: tally.with(
                 next.kind,
                 outcome(
                     next.kind,
-                    &bytes[..size],
                     &words[..count],
+                    &bytes[..size],
                     &numbers[..count],
                     &mut copy[..count],
+                    &mut names[..size],
                 ),
             ),
             more: true,
@@ -91,8 +93,15 @@ fn one_record(tally: Tally) -> Pass {
     }
 }
 
-fn outcome(kind: u64, bytes: &[u8], words: &[u64], numbers: &[f64], copy: &mut [f64]) -> Comparison
-    requires { ⌜ (length (now bytes) ≡ 8 * length (now words)) × (length (now words) ≤ 4094) × (length (now numbers) ≡ length (now words)) × (length (now copy) ≡ length (now words)) ⌝ }
+fn outcome(
+    kind: u64,
+    words: &[u64],
+    bytes: &[u8],
+    numbers: &[f64],
+    copy: &mut [f64],
+    names: &mut [u8],
+) -> Comparison
+    requires { ⌜ (length (now bytes) ≡ 8 * length (now words)) × (length (now words) ≤ 4094) × (length (now numbers) ≡ length (now words)) × (length (now copy) ≡ length (now words)) × (length (now names) ≡ 8 * length (now words)) ⌝ }
 {
     match kind {
         kinds::WEIGHTS => splines::of_weights(words, numbers),
@@ -102,6 +111,6 @@ fn outcome(kind: u64, bytes: &[u8], words: &[u64], numbers: &[f64], copy: &mut [
         kinds::PLANE => inversions::of_plane(words),
         kinds::JOB => jobs::of_job(words, bytes),
         kinds::IS_FINITE..=kinds::REM_EUCLID => floats::of_float(kind, words),
-        _ => lent::of_surface(kind, words, numbers, copy),
+        _ => lent::of_surface(kind, words, bytes, numbers, copy, names),
     }
 }

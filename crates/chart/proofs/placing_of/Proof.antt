@@ -5,11 +5,11 @@ use Rattle.chart.proofs.placing_of.Tie as tie
 
 returns : tie.Need-returns
 unfolding placingOf
-returns c = simp (c .before .before .outcome .given .1, c .turned .ensures)
+returns c = simp (c .before .before .answer .given .1, c .turned .ensures)
 
 returns-2 : tie.Need-returns-2
 unfolding placingOf
-returns-2 c = simp (c .before .outcome2 .given .1)
+returns-2 c = simp (c .before .answer2 .given .1)
 
 returns-3 : tie.Need-returns-3
 unfolding placingOf

@@ -19,12 +19,12 @@ returns : tie.Need-returns
 unfolding pairLine ascii
 returns c =
     let c6 = c .before .before in
-    let c5 = c6 .before .before .before .before .before in
+    let c5 = c6 .before .before .before .before in
     let c4 = c5 .before .before .before .before in
     let c3 = c4 .before .before .before .before .before in
     let c2 = c3 .before .before .before .before in
     let c1 = c2 .before .before .before .before .before in
-    (put-then (c1 .put-hex .ensures .0) (put-then (c2 .put .ensures) (put-then (c3 .put-hex2 .ensures .0) (put-then (c4 .put2 .ensures) (put-then (c5 .put-decimal .ensures .0) (c6 .put3 .ensures))))), omega (arith, c1 .put-hex .ensures .1, c2 .put .ensures .next-is))
+    (put-then (c1 .put-hex .ensures .0) (put-then (c2 .put .ensures) (put-then (c3 .put-hex2 .ensures .0) (put-then (c4 .put2 .ensures) (put-then (c5 .put-decimal .ensures .0) (c6 .put-end .ensures .0))))), omega (arith, c1 .put-hex .ensures .1, c2 .put .ensures .next-is, c6 .put-end .ensures .1))
 
 pub put-pair-spec : {M : Type 1} → statement M
 put-pair-spec =
@@ -39,7 +39,6 @@ put-pair-spec =
     (λ c. search needs)
     (λ c κs. search needs)
     (λ c κs. search needs)
-    (λ c. search needs)
     (λ c κs. search needs)
     (λ c. search needs)
     returns)

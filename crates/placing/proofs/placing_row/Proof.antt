@@ -8,23 +8,23 @@ use Rattle.placing.proofs.placing_row.Tie as tie
 
 returns : tie.Need-returns
 unfolding rows
-returns c = let ro = c .before in row-unfit _ _ _ _ (ro .fits-row .ensures) (not-true _ (c .if1 .taken))
+returns c = let ro = c .before in row-unfit _ _ _ _ _ (ro .fits-row .ensures) (not-true _ (c .if1 .taken))
 
 slice-read-row : tie.Need-slice-read-row
 slice-read-row c = let el = c .before .before .before in row-room _ _ _ _ _ _ (el .before .fits-row .ensures) (not-false _ (el .if1 .left)) .0
 
 lay-ended-requires : tie.Need-lay-ended-requires
-lay-ended-requires c κs = let el = c .before .before .before .before .before .before .before .before .before in row-room _ _ _ _ _ _ (el .before .fits-row .ensures) (not-false _ (el .if1 .left))
+lay-ended-requires c κs = let el = c .before .before .before .before .before .before .before .before .before .before .before .before in row-room _ _ _ _ _ _ (el .before .fits-row .ensures) (not-false _ (el .if1 .left))
 
 returns-2 : tie.Need-returns-2
 unfolding rows
 returns-2 c =
     let la = c .before .before .before .before in
-    let to = la .before .before .before .before .before in
-    let te = to .before .before .before in
+    let to = la .before .before .before .before .before .before .before in
+    let te = to .before .before .before .before in
     let sh = te .before in
     let el = sh .before in
-    row-fits _ _ _ _ (el .before .fits-row .ensures) (not-false _ (el .if1 .left)) (rowed-by _ _ _ _ (sh .shape-of .ensures) (te .terms-of .ensures) _ _ _) (to .row .ensures) (la .lay-ended .ensures)
+    row-fits _ _ _ _ _ (el .before .fits-row .ensures) (not-false _ (el .if1 .left)) (rowed-by _ _ _ _ (sh .shape-of .ensures) (te .terms-of .ensures) _ _ _ _) (to .row .ensures) (la .lay-ended .ensures)
 
 pub placing-row-spec : {M : Type 1} → statement M
 placing-row-spec =
@@ -37,6 +37,7 @@ placing-row-spec =
     slice-read-row
     (λ c κs. search needs)
     lay-ended-requires
+    (λ c. search needs)
     (λ c. search needs)
     (λ c. search needs)
     (λ c. search needs)

@@ -16,7 +16,7 @@ abbrev Inv-loop : tie.InvT-loop
 Inv-loop accepted ku kv controls weights mark lead budget at best₀ taken₀ i₀ i-end best taken i =
     let d = accepted .domain in
     let eval = evaluateBy (surface (accepted .shape) ku kv controls weights) (accepted .largest) in
-    (i ≤ i-end) × Stands d mark eval (after taken₀ (searched d mark eval best₀ (lead .again) (take i-end at))) at i-end budget (lead .again) taken best i
+    (i ≤ i-end) × Stands d mark eval (after taken₀ (searched d mark eval best₀ (lead .again) 1 (take i-end at))) at i-end budget (lead .again) taken best i
 
 abbrev μ-loop : tie.MeasureT-loop
 μ-loop accepted ku kv controls weights mark lead budget at best₀ taken₀ i₀ i-end best taken i = i-end - i
@@ -33,8 +33,8 @@ returns c =
     let at = to .before .before in
     search-spent _ _ _ (at .before .loop .inv .1) (at .loop-test .taken) (to .run .ensures) (c .enum-told .given .1)
 
-add-t26 : tie.Need-add-t26 Inv-loop μ-loop
-add-t26 c =
+add-t27 : tie.Need-add-t27 Inv-loop μ-loop
+add-t27 c =
     let to = c .before .before .before in
     let at = to .before .before in
     let from = at .before .before .before .before .before .before .before in
@@ -45,6 +45,12 @@ returns-2 c =
     let to = c .before .before .before in
     let at = to .before .before in
     search-refused _ _ _ (at .before .loop .inv .1) (at .loop-test .taken) (to .run .ensures) _ (c .before .units .given .1)
+
+cast-origin : tie.Need-cast-origin Inv-loop μ-loop
+cast-origin c =
+    let at = c .before .before .before .before .before in
+    let from = at .before .before .before .before .before .before .before in
+    record { fits = omega (arith, from .pre .1, at .loop-test .taken) }
 
 add-taken : tie.Need-add-taken Inv-loop μ-loop
 add-taken c =
@@ -81,9 +87,11 @@ search-spec =
     (λ c. search needs)
     returns
     (λ c. search needs)
-    add-t26
+    add-t27
     returns-2
     (λ c. search needs)
+    (λ c. search needs)
+    cast-origin
     (λ c κs. search needs)
     add-taken
     (λ c. search needs)

@@ -16,7 +16,7 @@ use Rattle.job.proofs.marks.print_marks.Tie as tie
 abbrev Inv-loop : tie.InvT-loop
 Inv-loop accepted ku kv controls weights bytes out₀ from first progress₀ at₀ i₀ count out progress at i =
     let s = surface (accepted .shape) ku kv controls weights in
-    (i ≤ count) × (at + 55 * (count - i + 1) ≤ length out) × (length out ≡ length out₀) × Unshifted (progress .terms)
+    (i ≤ count) × (at + 57 * (count - i + 1) ≤ length out) × (length out ≡ length out₀) × Unshifted (progress .terms)
     × Rest from (rowLines (inTurn s 0 (marksAt count bytes first) progress₀)) out₀ at (linesFrom s bytes first count i progress) out
 
 abbrev μ-loop : tie.MeasureT-loop

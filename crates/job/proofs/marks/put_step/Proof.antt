@@ -1,4 +1,5 @@
 -- `job::marks::put_step` meets its contract, by the step's cases. Assumes nothing.
+use Rattle.newton.specs.EndLaws.{ending-digit}
 use Rattle.job.specs.Turns.{stepLine}
 use borrow.Author.Needs.{needs}
 use Rattle.job.proofs.marks.put_step.Statement.{statement}
@@ -6,16 +7,18 @@ use Rattle.job.proofs.marks.put_step.Tie as tie
 
 put-pair-requires : tie.Need-put-pair-requires
 put-pair-requires c κs =
-    let k = c .before .before in
+    let e = c .before in
+    let k = e .before .before .before in
     let s = k .before .before .before in
     let n = rw (k .stepped .given .1) at (s .pre .1) in
-    (s .pre .0, n .0 .0, n .0 .1)
+    (s .pre .0, n .0 .0, n .0 .1, rw (e .ending-number .ensures) (ending-digit _))
 
 returns : tie.Need-returns
 unfolding stepLine
 returns c =
     let p = c .before .before in
-    rw (p .before .before .before .stepped .given .1) (p .put-pair .ensures)
+    let e = p .before .before in
+    rw (e .before .before .before .stepped .given .1) (rw (e .ending-number .ensures) at (p .put-pair .ensures))
 
 returns-2 : tie.Need-returns-2
 unfolding stepLine
@@ -28,6 +31,7 @@ put-step-spec =
     tie.close
     (tie.spec
     (λ c. search needs)
+    (λ c κs. search needs)
     put-pair-requires
     (λ c. search needs)
     (λ c κs. search needs)

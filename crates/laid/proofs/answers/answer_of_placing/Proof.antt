@@ -5,7 +5,7 @@ use Rattle.laid.proofs.answers.answer_of_placing.Tie as tie
 
 returns : tie.Need-returns
 unfolding answerOfPlacing
-returns c = simp (c .before .placing .given .1)
+returns c = simp (c .before .before .placing .given .1)
 
 returns-2 : tie.Need-returns-2
 unfolding answerOfPlacing

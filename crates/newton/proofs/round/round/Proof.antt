@@ -1,4 +1,5 @@
 -- Each way out of a round is a case of its definition.
+use mathlib.Core.Path.{_∙_}
 use borrow.Author.Needs.{needs}
 use Rattle.newton.proofs.RoundSteps.{halted, unpaid, unfound, further, last, onward}
 use Rattle.newton.proofs.round.round.Statement.{statement}
@@ -18,39 +19,40 @@ found c = c .before .before .before .before .before
 
 returns : tie.Need-returns
 returns c =
-    let to = c .before .before in
-    halted _ _ _ _ (start to .args .held) _ (start to .pre .1) (to .plan-from .ensures) (c .enum-told .given .1)
-
-returns-2 : tie.Need-returns-2
-returns-2 c =
     let at = c .before .before in
     let to = planned at in
     unpaid _ _ _ _ (start to .args .held) _ (start to .pre .1) (to .plan-from .ensures) _ _ _ (at .nudge .given .1) (c .if1 .taken)
 
-returns-3 : tie.Need-returns-3
-returns-3 c =
+returns-2 : tie.Need-returns-2
+returns-2 c =
     let jet = c .before .before in
     let at = probed jet in
     let to = planned at in
-    unfound _ _ _ _ (start to .args .held) _ (start to .pre .1) (to .plan-from .ensures) _ _ _ (at .nudge .given .1) (jet .before .if1 .left) (jet .scaled-jet .ensures) (c .enum-told2 .given .1)
+    unfound _ _ _ _ (start to .args .held) _ (start to .pre .1) (to .plan-from .ensures) _ _ _ (at .nudge .given .1) (jet .before .if1 .left) (jet .scaled-jet .ensures) (c .enum-told .given .1)
+
+returns-3 : tie.Need-returns-3
+returns-3 c =
+    let is = c .before .before in
+    let to = is .before .before in
+    c .over .ensures ∙ halted _ _ _ _ (start to .args .held) _ (start to .pre .1) (to .plan-from .ensures) _ (is .ending .given .1)
 
 returns-4 : tie.Need-returns-4
 returns-4 c =
-    let by = c .before .before in
+    let by = c .before .before .before in
     let is = found by in
     let jet = is .before .before in
     let at = probed jet in
     let to = planned at in
-    further _ _ _ _ (start to .args .held) _ (start to .pre .1) (to .plan-from .ensures) _ _ _ (at .nudge .given .1) (jet .before .if1 .left) (jet .scaled-jet .ensures) _ (is .jet .given .1) (by .before .before .hold .result) (by .before .before .hold .ensures) (by .judge .ensures) (c .enum-told3 .given .1)
+    c .over2 .ensures ∙ further _ _ _ _ (start to .args .held) _ (start to .pre .1) (to .plan-from .ensures) _ _ _ (at .nudge .given .1) (jet .before .if1 .left) (jet .scaled-jet .ensures) _ (is .jet .given .1) (by .before .before .hold .result) (by .before .before .hold .ensures) (by .judge .ensures) (c .before .enum-told2 .given .1)
 
 returns-5 : tie.Need-returns-5
 returns-5 c =
-    let by = c .before .before in
+    let by = c .before .before .before in
     let is = found by in
     let jet = is .before .before in
     let at = probed jet in
     let to = planned at in
-    last _ _ _ _ (start to .args .held) _ (start to .pre .1) (to .plan-from .ensures) _ _ _ (at .nudge .given .1) (jet .before .if1 .left) (jet .scaled-jet .ensures) _ (is .jet .given .1) (by .before .before .hold .result) (by .before .before .hold .ensures) (by .judge .ensures) (c .enum-told4 .given .1)
+    c .over3 .ensures ∙ last _ _ _ _ (start to .args .held) _ (start to .pre .1) (to .plan-from .ensures) _ _ _ (at .nudge .given .1) (jet .before .if1 .left) (jet .scaled-jet .ensures) _ (is .jet .given .1) (by .before .before .hold .result) (by .before .before .hold .ensures) (by .judge .ensures) (c .before .enum-told3 .given .1)
 
 returns-6 : tie.Need-returns-6
 returns-6 c =
@@ -59,7 +61,7 @@ returns-6 c =
     let jet = is .before .before in
     let at = probed jet in
     let to = planned at in
-    onward _ _ _ _ (start to .args .held) _ (start to .pre .1) (to .plan-from .ensures) _ _ _ (at .nudge .given .1) (jet .before .if1 .left) (jet .scaled-jet .ensures) _ (is .jet .given .1) (by .before .before .hold .result) (by .before .before .hold .ensures) (by .judge .ensures) (c .enum-told5 .given .1)
+    onward _ _ _ _ (start to .args .held) _ (start to .pre .1) (to .plan-from .ensures) _ _ _ (at .nudge .given .1) (jet .before .if1 .left) (jet .scaled-jet .ensures) _ (is .jet .given .1) (by .before .before .hold .result) (by .before .before .hold .ensures) (by .judge .ensures) (c .enum-told4 .given .1)
 
 pub round-spec : {M : Type 1} → statement M
 round-spec =
@@ -67,19 +69,22 @@ round-spec =
     (tie.spec
     (λ c κs. search needs)
     (λ c. search needs)
+    (λ c κs. search needs)
     (λ c. search needs)
     returns
-    returns-2
     (λ c. search needs)
     (λ c κs. search needs)
     (λ c. search needs)
+    (λ c. search needs)
+    returns-2
+    (λ c κs. search needs)
+    (λ c κs. search needs)
+    (λ c. search needs)
+    (λ c κs. search needs)
+    (λ c. search needs)
+    (λ c κs. search needs)
     (λ c. search needs)
     returns-3
-    (λ c κs. search needs)
-    (λ c κs. search needs)
-    (λ c. search needs)
-    (λ c. search needs)
-    (λ c. search needs)
     returns-4
     returns-5
     returns-6)

@@ -8,4 +8,4 @@ unfolding misfit
 returns c = search needs
 
 pub misfit-spec : {M : Type 1} → statement M
-misfit-spec = tie.close (tie.spec (λ c. search needs) returns)
+misfit-spec = tie.close (tie.spec (λ c. search needs) (λ c. search needs) returns)

@@ -1,4 +1,4 @@
--- The invariant: the row of all marks is that of the marks left, after the pairs that the buffer holds.
+-- The invariant: the row of all marks is that of the marks left, after what the buffers hold.
 use mathlib.Core.Path.{_≡_, refl, _∙_}
 use Prim.Native.Nat.{_-_, _*_, _≤_}
 use native.Mathlib.Omega.{arith}
@@ -12,48 +12,52 @@ use Rattle.row.proofs.marks.place_marks.Statement.{statement}
 use Rattle.row.proofs.marks.place_marks.Tie as tie
 
 abbrev Inv-loop : tie.InvT-loop
-Inv-loop accepted ku kv controls weights marks answers₀ progress₀ i₀ i-end answers progress i =
+Inv-loop accepted ku kv controls weights marks answers₀ ends₀ progress₀ i₀ i-end answers ends progress i =
     let s = surface (accepted .shape) ku kv controls weights in
-    (i ≤ i-end) × (length marks ≡ 3 * i-end) × (2 * i-end ≤ length answers) × (length answers ≡ length answers₀)
-    × Stands (inTurn s 0 (marksOf marks) progress₀) answers₀ i answers (restFrom s marks i progress)
+    (i ≤ i-end) × (length marks ≡ 3 * i-end) × (2 * i-end ≤ length answers) × (length answers ≡ length answers₀) × (2 * i-end ≤ length ends) × (length ends ≡ length ends₀)
+    × Stands (inTurn s 0 (marksOf marks) progress₀) answers₀ ends₀ i answers ends (restFrom s marks i progress)
 
 abbrev μ-loop : tie.MeasureT-loop
-μ-loop accepted ku kv controls weights marks answers₀ progress₀ i₀ i-end answers progress i = i-end - i
+μ-loop accepted ku kv controls weights marks answers₀ ends₀ progress₀ i₀ i-end answers ends progress i = i-end - i
 
 loop-holds : tie.Need-loop-holds Inv-loop μ-loop
 loop-holds c =
-    let at = c .before .before .before .before .before .before in
-    let f = fits _ _ (at .pre .1) in
-    (omega arith, f .0, f .1, refl, begins _ _ _ _)
+    let at = c .before .before .before .before .before .before .before in
+    let f = fits _ _ _ (at .pre .1) in
+    (omega arith, f .threes, f .pairs, refl, f .names, refl, begins _ _ _ _ _)
 
 returns : tie.Need-returns Inv-loop μ-loop
 returns c =
-    let to = c .before .before .before .before .before in
-    let by = to .before .before in
+    let to = c .before .before .before .before .before .before .before in
+    let by = to .before .before .before in
     let at = by .before .before in
-    stops _ _ _ _ _ (at .loop .i) _ (at .loop .inv .4) (omega arith) (by .mark-at .ensures) (to .place-mark .ensures .0) (to .place-mark .ensures .1) (c .before .number .given .1)
+    let told = to .place-mark .ensures in
+    stops _ _ _ _ _ _ _ (at .loop .i) _ (at .loop .inv .6) (omega arith) (by .mark-at .ensures) (told .0) (told .1 .0) (told .1 .1) (c .before .number .given .1)
 
 add-i : tie.Need-add-i Inv-loop μ-loop
 add-i c =
-    let in-loop = c .before .before .before .before .before .before .before .before in
+    let in-loop = c .before .before .before .before .before .before .before .before .before .before .before in
     let at = in-loop .before in
-    let start = at .before .before .before .before .before .before .before in
+    let start = at .before .before .before .before .before .before .before .before in
     record { fits = omega (arith, in-loop .loop-test .taken, at .loop .inv .1, start .good .1 .1 .1 .1 .1 .0) }
 
 loop-again : tie.Need-loop-again Inv-loop μ-loop
 loop-again c =
-    let to = c .before .before .before .before .before in
-    let by = to .before .before in
+    let to = c .before .before .before .before .before .before .before in
+    let by = to .before .before .before in
     let at = by .before .before in
+    let told = to .place-mark .ensures in
     let p = c .before .next .given .1 in
     let i = at .loop .i in
-    let long = kept-long _ _ _ _ _ i _ (at .loop .inv .4) (omega arith) (by .mark-at .ensures) (to .place-mark .ensures .0) (to .place-mark .ensures .1) p (omega arith) in
-    (omega arith, at .loop .inv .1, omega arith, long ∙ at .loop .inv .3, goes _ _ _ _ _ i _ (at .loop .inv .4) (omega arith) (by .mark-at .ensures) (to .place-mark .ensures .0) (to .place-mark .ensures .1) p (omega arith))
+    let inv = at .loop .inv in
+    let long = kept-long _ _ _ _ _ _ _ i _ (inv .6) (omega arith) (by .mark-at .ensures) (told .0) (told .1 .0) (told .1 .1) _ _ p (omega arith) (omega arith) in
+    let on = goes _ _ _ _ _ _ _ i _ (inv .6) (omega arith) (by .mark-at .ensures) (told .0) (told .1 .0) (told .1 .1) _ _ p (omega arith) (omega arith) in
+    (omega arith, inv .1, omega (arith, long .0), long .0 ∙ inv .3, omega (arith, long .1), long .1 ∙ inv .5, on)
 
 returns-2 : tie.Need-returns-2 Inv-loop μ-loop
 returns-2 c =
     let at = c .before in
-    over _ _ _ _ _ (at .loop .i) _ (at .loop .inv .4) (omega arith)
+    over _ _ _ _ _ _ _ (at .loop .i) _ (at .loop .inv .6) (omega arith)
 
 pub place-marks-spec : {M : Type 1} → statement M
 place-marks-spec =
@@ -68,7 +72,11 @@ place-marks-spec =
     (λ c. search needs)
     (λ c. search needs)
     (λ c. search needs)
+    (λ c. search needs)
+    (λ c. search needs)
+    (λ c. search needs)
     (λ c κs. search needs)
+    (λ c. search needs)
     (λ c. search needs)
     (λ c. search needs)
     returns
@@ -76,5 +84,6 @@ place-marks-spec =
     add-i
     (λ c. search needs)
     loop-again
+    (λ c. search needs)
     (λ c. search needs)
     returns-2)

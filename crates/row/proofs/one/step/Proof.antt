@@ -20,7 +20,7 @@ sub-t16 c =
 sub-t18 : tie.Need-sub-t18
 sub-t18 c =
     let to = c .before .before .before .before in
-    took _ _ (start to .args .progress) (start to .pre .checked) (to .invert-checked .ensures) (ap takenOf (c .before .before .end .given .1))
+    took _ _ (start to .args .progress) (start to .pre .checked) (to .invert-checked .ensures) (ap takenOf (c .before .before .choice .given .1))
 
 returns : tie.Need-returns
 returns c =
@@ -30,7 +30,7 @@ returns c =
 returns-2 : tie.Need-returns-2
 returns-2 c =
     let to = c .before .before .before .before in
-    step-places _ _ (start to .args .progress) (start to .pre .checked) (to .invert-checked .ensures) (c .before .before .end .given .1) (c .led-by .ensures)
+    step-places _ _ (start to .args .progress) (start to .pre .checked) (to .invert-checked .ensures) (c .before .before .choice .given .1) (c .led-by .ensures)
 
 pub step-spec : {M : Type 1} → statement M
 step-spec =
