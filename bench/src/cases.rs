@@ -21,6 +21,7 @@ pub fn placed(lent: &Lent, mark: Point, search: &Search) -> [f64; 2] {
         &[],
         &mut budget,
         &mut pair,
+        &mut [0; 2],
     );
     assert_eq!(number, 0, "a mark on the surface is placed");
     pair

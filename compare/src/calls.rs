@@ -1,5 +1,5 @@
 //! One case, answered by the source and by the port: numbers, budgets and whole buffers.
-use oracle::calls::{self, Jet, Pair, Point, Search, Shell, Spent, Surface};
+use oracle::calls::{self, Jet, Pair, Placed, Point, Search, Shell, Spent, Surface};
 use oracle::generate::{Case, Inversion, Random, Row};
 use oracle::refusals::Refusal;
 use oracle::{job, row};
@@ -86,15 +86,31 @@ fn invert(r: &mut Random, inversion: &Inversion) -> Compared {
         search,
         budget,
     } = inversion;
-    let spent = calls::invert(surface, *mark, search, *budget);
+    let Spent { answer, left } = calls::invert(surface, *mark, search, *budget);
+    let spent = Spent {
+        answer: answer.map(|placed| placed.pair),
+        left,
+    };
+    let mut ended = bytes(r, 2);
+    let expected = laid_bytes(answer.ok(), &ended);
     let options = Options::new(search);
     let [hint, pu, pv] = options.slices();
     let watched = Watched::new(surface, &[hint, pu, pv]);
     let tolerance = search.tolerance;
     let mut same = false;
     let call = |budget: &mut [u64], pair: &mut [f64]| {
-        let number = raw::invert(&lent(surface), *mark, hint, tolerance, pu, pv, budget, pair);
-        same = watched.same(surface, &[hint, pu, pv]);
+        let number = raw::invert(
+            &lent(surface),
+            *mark,
+            hint,
+            tolerance,
+            pu,
+            pv,
+            budget,
+            pair,
+            &mut ended,
+        );
+        same = watched.same(surface, &[hint, pu, pv]) && ended == expected;
         number
     };
     let compared = spend(r, spent, *budget, call);
@@ -167,8 +183,8 @@ fn place_row(r: &mut Random, case: &Row) -> Compared {
         search,
         ..
     } = case;
-    let mut answers = case.answers.clone();
-    let ended = row::row(surface, marks, search, case.budget, &mut answers);
+    let (mut answers, mut runs) = (case.answers.clone(), case.ends.clone());
+    let ended = row::row(surface, marks, search, case.budget, &mut answers, &mut runs);
     let (number, at) = match ended.refused {
         None => (0, 0),
         Some((refusal, at)) => (refusal.number(), at as u64),
@@ -184,7 +200,7 @@ fn place_row(r: &mut Random, case: &Row) -> Compared {
     let [hint, pu, pv] = options.slices();
     let lent_too = [&marks[..], hint, pu, pv];
     let watched = Watched::new(surface, &lent_too);
-    let mut answers = case.answers.clone();
+    let (mut answers, mut ends) = (case.answers.clone(), case.ends.clone());
     let number = raw::row(
         &lent(surface),
         marks,
@@ -195,12 +211,13 @@ fn place_row(r: &mut Random, case: &Row) -> Compared {
         &mut budgets,
         &mut index,
         &mut answers,
+        &mut ends,
     );
     let whole = [budgets, index].concat();
     finish(
         expected,
         words(number, &whole, &answers, 0),
-        watched.same(surface, &lent_too),
+        watched.same(surface, &lent_too) && ends == runs,
     )
 }
 
@@ -218,6 +235,20 @@ fn lent(surface: &Surface) -> Lent<'_> {
 /// A buffer as long as needed or longer, with bits of all kinds.
 fn buffer(r: &mut Random, needed: usize) -> Vec<f64> {
     (0..needed + r.below(4)).map(|_| r.special()).collect()
+}
+
+/// As many bytes as needed or more.
+fn bytes(r: &mut Random, needed: usize) -> Vec<u8> {
+    (0..needed + r.below(4)).map(|_| r.word() as u8).collect()
+}
+
+/// End and origin at the front of a buffer; a refusal leaves all of it.
+fn laid_bytes(answer: Option<Placed>, buffer: &[u8]) -> Vec<u8> {
+    let mut laid = buffer.to_vec();
+    if let Some(Placed { end, origin, .. }) = answer {
+        laid[..2].copy_from_slice(&[end, origin]);
+    }
+    laid
 }
 
 /// The words of an answer that goes to the front of a buffer; a refusal leaves all of it.

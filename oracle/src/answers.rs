@@ -1,5 +1,5 @@
 //! Stored answers: records of 64-bit words, inputs first, then the answer.
-use crate::calls::{self, Jet, Search, Shell, Spent, Surface};
+use crate::calls::{self, Jet, Placed, Search, Shell, Spent, Surface};
 use crate::generate::{Case, Inversion, Random, Row, Set};
 use crate::job;
 use crate::refusals::Refusal;
@@ -126,14 +126,17 @@ fn write(words: &mut Words, case: &Case) {
             words.floats(frame.as_flattened());
             words.floats(mark);
             words.word(*budget);
-            words.pair(calls::plane(*frame, *mark, *budget));
+            words.spent(calls::plane(*frame, *mark, *budget), |words, pair| {
+                words.floats(pair);
+            });
         }
         Case::Derivative(surface, uv, vector, budget) => {
             words.surface(surface);
             words.floats(uv);
             words.floats(vector);
             words.word(*budget);
-            words.pair(calls::derivative(surface, *uv, *vector, *budget));
+            let spent = calls::derivative(surface, *uv, *vector, *budget);
+            words.spent(spent, |words, pair| words.floats(pair));
         }
         Case::Singular(surface, tolerance) => {
             words.surface(surface);
@@ -186,7 +189,12 @@ fn invert(words: &mut Words, inversion: &Inversion) {
     words.floats(mark);
     words.search(search);
     words.word(*budget);
-    words.pair(calls::invert(surface, *mark, search, *budget));
+    let spent = calls::invert(surface, *mark, search, *budget);
+    words.spent(spent, |words, Placed { pair, end, origin }| {
+        words.floats(pair);
+        words.word(u64::from(*end));
+        words.word(u64::from(*origin));
+    });
 }
 
 fn placed_row(words: &mut Words, lent: &Row) {
@@ -196,18 +204,21 @@ fn placed_row(words: &mut Words, lent: &Row) {
         search,
         budget,
         answers,
+        ends,
     } = lent;
     words.surface(surface);
     words.numbers(marks);
     words.search(search);
     words.word(*budget);
     words.numbers(answers);
-    let mut answers = answers.clone();
-    let ended = row::row(surface, marks, search, *budget, &mut answers);
+    words.bytes(ends);
+    let (mut answers, mut ends) = (answers.clone(), ends.clone());
+    let ended = row::row(surface, marks, search, *budget, &mut answers, &mut ends);
     words.refusal(ended.refused.map(|(refusal, _)| refusal).as_ref());
     words.count(ended.refused.map_or(0, |(_, index)| index));
     words.word(ended.left);
     words.floats(&answers);
+    words.packed(&ends);
 }
 
 /// The words of a record under way.
@@ -244,6 +255,11 @@ impl Words {
     /// A count of bytes and the bytes, eight to a word, the first lowest.
     fn bytes(&mut self, bytes: &[u8]) {
         self.count(bytes.len());
+        self.packed(bytes);
+    }
+
+    /// Bytes without their count, the last word filled with zeros.
+    fn packed(&mut self, bytes: &[u8]) {
         for eight in bytes.chunks(8) {
             let mut word = [0; 8];
             word[..eight.len()].copy_from_slice(eight);
@@ -300,12 +316,12 @@ impl Words {
         }
     }
 
-    /// Refusal, units left, and the pair where there is one.
-    fn pair(&mut self, spent: Spent<[f64; 2]>) {
+    /// Refusal, units left, and the answer where there is one.
+    fn spent<T>(&mut self, spent: Spent<T>, write: impl Fn(&mut Self, &T)) {
         self.refusal(spent.answer.as_ref().err());
         self.word(spent.left);
-        if let Ok(pair) = spent.answer {
-            self.floats(&pair);
+        if let Ok(answer) = spent.answer {
+            write(self, &answer);
         }
     }
 }

@@ -1,6 +1,8 @@
 //! The calls of document 01 that test their own input, answered by the source.
+use crate::ends;
 use crate::refusals::{self, Refusal};
 use crate::source::pcurve::{self, Chart, Frame, Inverter, PcurveError, Work};
+use crate::source::recorded;
 use tessstep_curves::PlaneFrame;
 use tessstep_curves::spline::SplineLimits;
 use tessstep_math::{ModelSpace, NumericalTolerance, Point3, Vector3};
@@ -36,6 +38,17 @@ pub struct Spent<T> {
     pub left: u64,
 }
 
+/// An inversion's answer: the pair, and of the run that found it the end and the origin.
+#[derive(Clone, Copy, Debug, PartialEq)]
+pub struct Placed {
+    pub pair: Pair,
+    /// 0 pair unchanged, 1 next point further, 2 small step, 3 second singular point, 4 all
+    /// rounds gone.
+    pub end: u8,
+    /// 0 for the hint, or the start's place, 1 to 6.
+    pub origin: u8,
+}
+
 /// Point and first derivatives.
 #[derive(Clone, Copy, Debug, PartialEq)]
 pub struct Jet {
@@ -62,7 +75,7 @@ impl Shell {
         if made == Err(Refusal::Counts) {
             return Err(Refusal::Counts);
         }
-        if made == Err(Refusal::Controls) || surface.controls.len() % 3 != 0 {
+        if made == Err(Refusal::Controls) || !surface.controls.len().is_multiple_of(3) {
             return Err(Refusal::Controls);
         }
         if surface.controls.iter().any(|x| !x.is_finite()) {
@@ -87,8 +100,28 @@ impl Shell {
         })
     }
 
-    /// `Inverter::invert` on input that passed check 7.
-    pub fn invert(&self, mark: Point, search: &Search, budget: u64) -> Spent<Pair> {
+    /// `Inverter::invert` on input that passed check 7. The source as published answers; the
+    /// copy that records tells how its run ended, and must answer the same.
+    pub fn invert(&self, mark: Point, search: &Search, budget: u64) -> Spent<Placed> {
+        let published = self.pair(mark, search, budget);
+        let copied = || self.recorded(mark, search, budget);
+        let (copied, taken) = ends::recorded(copied);
+        assert!(
+            bits(published) == bits(copied),
+            "the copy answers {copied:?} and not {published:?}"
+        );
+        let placed = |pair| {
+            let ends::Taken { end, origin } = taken.expect("an answer is some run's");
+            Placed { pair, end, origin }
+        };
+        Spent {
+            answer: published.answer.map(placed),
+            left: published.left,
+        }
+    }
+
+    /// The pair of `invert`, by the source as published and nothing else.
+    pub fn pair(&self, mark: Point, search: &Search, budget: u64) -> Spent<Pair> {
         let chart = Chart::Nurbs(search.periods, Vec::new());
         let inverter = Inverter {
             chart: &chart,
@@ -96,6 +129,24 @@ impl Shell {
             tolerance: search.tolerance,
         };
         spend(budget, |work| inverter.invert(mark, search.hint, work))
+    }
+
+    /// `pair` by the copy that records, whose types are its own.
+    fn recorded(&self, mark: Point, search: &Search, budget: u64) -> Spent<Pair> {
+        let chart = recorded::Chart::Nurbs(search.periods, Vec::new());
+        let inverter = recorded::Inverter {
+            chart: &chart,
+            surface: &self.0,
+            tolerance: search.tolerance,
+        };
+        let mut work = recorded::Work {
+            remaining: budget as usize,
+        };
+        let answer = inverter.invert(mark, search.hint, &mut work);
+        Spent {
+            answer: answer.map_err(refusals::of_recorded_work),
+            left: work.remaining as u64,
+        }
     }
 
     fn derivative(&self, uv: Pair, vector: Point, budget: u64) -> Spent<Pair> {
@@ -152,6 +203,14 @@ fn spend<T>(budget: u64, run: impl FnOnce(&mut Work) -> Result<T, PcurveError>) 
     Spent { answer, left }
 }
 
+/// An answer that compares by bits, so that a NaN is equal to itself.
+fn bits(spent: Spent<Pair>) -> Spent<[u64; 2]> {
+    Spent {
+        answer: spent.answer.map(|pair| pair.map(f64::to_bits)),
+        left: spent.left,
+    }
+}
+
 /// A call whose checks come before all work: a failed one leaves the budget whole.
 fn checked<C, T>(
     budget: u64,
@@ -180,7 +239,7 @@ pub fn evaluate(surface: &Surface, uv: Pair) -> Result<Jet, Refusal> {
     Shell::new(surface)?.evaluate(uv)
 }
 
-pub fn invert(surface: &Surface, mark: Point, search: &Search, budget: u64) -> Spent<Pair> {
+pub fn invert(surface: &Surface, mark: Point, search: &Search, budget: u64) -> Spent<Placed> {
     let checks = || {
         let shell = Shell::new(surface)?;
         refusals::finite(&mark)?;

@@ -2,6 +2,7 @@
 use crate::calls::{
     Pair, Point, Search, Surface, derivative, evaluate, invert, nurbs_singular, price,
 };
+use crate::generate::ends::{Known, known};
 use crate::job::{Job, print};
 use crate::refusals::Refusal;
 use crate::row::row;
@@ -41,6 +42,7 @@ pub fn all() -> Vec<Figure> {
         shifts(),
         rows_and_jobs(),
         traps(),
+        ends(),
     ];
     parts.into_iter().flatten().collect()
 }
@@ -248,7 +250,10 @@ fn checks() -> Vec<Figure> {
 /// Outcome and price.
 fn priced(surface: &Surface, mark: Point, search: &Search) -> (Result<Pair, Refusal>, u64) {
     let answer = invert(surface, mark, search, u64::MAX).answer;
-    (answer, price(surface, mark, search))
+    (
+        answer.map(|placed| placed.pair),
+        price(surface, mark, search),
+    )
 }
 
 fn inversions() -> Vec<Figure> {
@@ -269,7 +274,7 @@ fn inversions() -> Vec<Figure> {
         ),
         figure(
             "square, no hint, budget 92",
-            (enough.answer, enough.left),
+            (enough.answer.map(|placed| placed.pair), enough.left),
             (Ok(here), 0),
         ),
         figure(
@@ -418,16 +423,22 @@ fn rows_and_jobs() -> Vec<Figure> {
         budget: 1000,
         marks: [MARK; 2].as_flattened().to_vec(),
     };
-    let mut answers = [7.; 5];
-    let ended = row(&job.surface, &job.marks, &FREE, 1000, &mut answers);
+    let place = |search: &Search, answers: &mut [f64], ends: &mut [u8]| {
+        row(&job.surface, &job.marks, search, 1000, answers, ends)
+    };
+    let (mut answers, mut ends) = ([7.; 5], [7; 5]);
+    let ended = place(&FREE, &mut answers, &mut ends);
     let far = Search {
         periods: [Some(LEAST); 2],
         ..hinted([0.5; 2], 1.)
     };
-    let mut short = [7.; 3];
-    let refused = row(&job.surface, &job.marks, &FREE, 1000, &mut short).refused;
-    let printout = "marks 2\n3fd0000000000000 3fe0000000000000 908\n\
-                    3fd0000000000000 3fe0000000000000 814\n";
+    let (mut short, mut short_ends) = ([7.; 3], [7; 3]);
+    let refused = [
+        place(&FREE, &mut short, &mut [7; 4]).refused,
+        place(&FREE, &mut [7.; 4], &mut short_ends).refused,
+    ];
+    let printout = "marks 2\n3fd0000000000000 3fe0000000000000 908 0\n\
+                    3fd0000000000000 3fe0000000000000 814 0\n";
     vec![
         figure("the job of 01", print(&job.write()), printout.to_string()),
         figure(
@@ -436,19 +447,19 @@ fn rows_and_jobs() -> Vec<Figure> {
             "refused 12 at 0\n".to_string(),
         ),
         figure(
-            "the same marks as a row, one number to spare",
-            (answers, ended.refused, ended.left),
-            ([0.25, 0.5, 0.25, 0.5, 7.], None, 814),
+            "the same marks as a row, one number and one byte to spare",
+            (answers, ends, ended.refused, ended.left),
+            ([0.25, 0.5, 0.25, 0.5, 7.], [0, 1, 0, 0, 7], None, 814),
         ),
         figure(
             "a period of 2^-1074 shifts the first answer to infinity",
-            row(&job.surface, &job.marks, &far, 1000, &mut [7.; 4]).refused,
+            place(&far, &mut [7.; 4], &mut [7; 4]).refused,
             Some((Refusal::Argument, 1)),
         ),
         figure(
-            "a buffer of three numbers",
-            (short, refused),
-            ([7.; 3], Some((Refusal::Row, 0))),
+            "a buffer of three numbers, or of three bytes",
+            (short, short_ends, refused),
+            ([7.; 3], [7; 3], [Some((Refusal::Row, 0)); 2]),
         ),
     ]
 }
@@ -514,4 +525,24 @@ fn traps() -> Vec<Figure> {
             [Ok(1.), Ok(0.)],
         ),
     ]
+}
+
+/// Price, end and origin.
+fn ends() -> Vec<Figure> {
+    let figure_of = |known: Known| {
+        let Known {
+            surface,
+            mark,
+            search,
+            ..
+        } = &known;
+        let placed = invert(surface, *mark, search, u64::MAX).answer;
+        let found = placed.map(|placed| (price(surface, *mark, search), placed.end, placed.origin));
+        figure(
+            known.what,
+            found,
+            Ok((known.price, known.end, known.origin)),
+        )
+    };
+    known().into_iter().map(figure_of).collect()
 }

@@ -2,6 +2,7 @@
 mod arguments;
 mod brink;
 mod cases;
+pub(crate) mod ends;
 mod jobs;
 mod random;
 mod surfaces;
@@ -56,6 +57,7 @@ pub struct Row {
     pub search: Search,
     pub budget: u64,
     pub answers: Vec<f64>,
+    pub ends: Vec<u8>,
 }
 
 /// A set of stored answers: its name and its cases.

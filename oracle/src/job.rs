@@ -1,5 +1,5 @@
 //! The job file and its printout, added by document 01.
-use crate::calls::{Search, Surface};
+use crate::calls::{Placed, Search, Surface};
 use crate::refusals::Refusal;
 use crate::row;
 use std::fmt::Write;
@@ -26,9 +26,9 @@ pub fn print(bytes: &[u8]) -> String {
         tolerance: job.tolerance,
         periods: [None; 2],
     };
-    let line = |[u, v]: [f64; 2], left| {
-        let (u, v) = (u.to_bits(), v.to_bits());
-        writeln!(out, "{u:016x} {v:016x} {left}").expect("a string takes every line");
+    let line = |placed: Placed, left| {
+        let ([u, v], end) = (placed.pair.map(f64::to_bits), placed.end);
+        writeln!(out, "{u:016x} {v:016x} {left} {end}").expect("a string takes every line");
     };
     let ended = row::walk(&job.surface, &job.marks, &search, job.budget, line);
     if let Some((refusal, index)) = ended.refused {

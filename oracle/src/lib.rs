@@ -2,9 +2,11 @@
 //! inputs of every kind, stored answers, and the figures of 01.
 pub mod answers;
 pub mod calls;
+mod ends;
 pub mod figures;
 pub mod generate;
 pub mod job;
+pub mod misses;
 pub mod refusals;
 pub mod replay;
 pub mod row;

@@ -3,6 +3,7 @@ use oracle::answers::records;
 use oracle::figures;
 use oracle::generate::SETS;
 use oracle::job;
+use oracle::misses::Table;
 use oracle::replay::differing;
 use std::collections::BTreeMap;
 use std::env;
@@ -10,8 +11,8 @@ use std::io::{self, BufWriter, Read, Write};
 use std::process::ExitCode;
 
 const SEED: u64 = 20_261_115;
-const USAGE: &str =
-    "oracle figures | answers SET [SEED] | replay < FILE | digest [SEED] | job < FILE";
+const USAGE: &str = "oracle figures | answers SET [SEED] | replay < FILE | digest [SEED] | \
+                     job < FILE | ends [SEED]";
 
 fn main() -> ExitCode {
     let arguments: Vec<String> = env::args().skip(1).collect();
@@ -24,6 +25,8 @@ fn main() -> ExitCode {
         ["job"] => print_job(),
         ["digest"] => digest(SEED),
         ["digest", seed] => seed.parse().is_ok_and(digest),
+        ["ends"] => print_ends(SEED),
+        ["ends", seed] => seed.parse().is_ok_and(print_ends),
         _ => {
             eprintln!("{USAGE}");
             false
@@ -75,6 +78,14 @@ fn print_job() -> bool {
     let read = io::stdin().lock().read_to_end(&mut bytes);
     print!("{}", job::print(&bytes));
     read.is_ok()
+}
+
+/// Prints how often pairs miss the point nearest to their marks, by end and by origin; done if
+/// the distances they are held to are the least found.
+fn print_ends(seed: u64) -> bool {
+    let table = Table::new(seed);
+    print!("{table}");
+    table.is_sound()
 }
 
 /// Writes a set's records to the standard output, and how many to the other.

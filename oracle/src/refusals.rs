@@ -1,5 +1,5 @@
 //! Document 01's refusals and the source's errors that stand behind them.
-use crate::source::pcurve::PcurveError;
+use crate::source::{pcurve, recorded};
 use tessstep_curves::spline::SplineError;
 use tessstep_surfaces::Error;
 
@@ -48,11 +48,20 @@ pub(crate) fn of_knots(error: SplineError) -> Refusal {
 }
 
 /// 8, 9 and 10 from the errors of an inversion or a derivative.
-pub(crate) fn of_work(error: PcurveError) -> Refusal {
+pub(crate) fn of_work(error: pcurve::PcurveError) -> Refusal {
     match error {
-        PcurveError::Limit => Refusal::Units,
-        PcurveError::Geometry => Refusal::Evaluation,
-        PcurveError::Singular { .. } => Refusal::Singular,
+        pcurve::PcurveError::Limit => Refusal::Units,
+        pcurve::PcurveError::Geometry => Refusal::Evaluation,
+        pcurve::PcurveError::Singular { .. } => Refusal::Singular,
+        other => unreachable!("no inversion gives {other:?}"),
+    }
+}
+
+/// 8 and 9 from the errors of an inversion by the copy that records.
+pub(crate) fn of_recorded_work(error: recorded::PcurveError) -> Refusal {
+    match error {
+        recorded::PcurveError::Limit => Refusal::Units,
+        recorded::PcurveError::Geometry => Refusal::Evaluation,
         other => unreachable!("no inversion gives {other:?}"),
     }
 }

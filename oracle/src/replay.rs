@@ -52,6 +52,7 @@ impl Reader<'_> {
                 search: self.search(),
                 budget: self.word(),
                 answers: self.numbers(),
+                ends: self.bytes(),
             }),
             14 => Case::Job(self.bytes()),
             other => panic!("no record is of kind {other}"),

@@ -1,5 +1,5 @@
 //! A row of marks on one surface, added by document 01.
-use crate::calls::{Pair, Point, Search, Shell, Surface};
+use crate::calls::{Pair, Placed, Point, Search, Shell, Spent, Surface};
 use crate::refusals::{self, Refusal};
 
 /// How a row ended: the refusal and its mark's index, if any, and the units left.
@@ -9,58 +9,105 @@ pub struct Ended {
     pub left: u64,
 }
 
-/// Writes each mark's pair into `answers`; numbers after the last pair keep their bits.
+/// Writes each mark's pair into `answers`, and the end and the origin of its run into `ends`,
+/// a byte each; what comes after the last mark placed keeps its bits.
 pub fn row(
     surface: &Surface,
     marks: &[f64],
     search: &Search,
     budget: u64,
     answers: &mut [f64],
+    ends: &mut [u8],
 ) -> Ended {
-    if marks.len() % 3 != 0 || answers.len() < marks.len() / 3 * 2 {
+    let needed = marks.len() / 3 * 2;
+    if !marks.len().is_multiple_of(3) || answers.len() < needed || ends.len() < needed {
         return Ended {
             refused: Some((Refusal::Row, 0)),
             left: budget,
         };
     }
-    let mut pairs = answers.chunks_exact_mut(2);
-    walk(surface, marks, search, budget, |pair, _| {
-        pairs
-            .next()
-            .expect("two numbers a mark")
-            .copy_from_slice(&pair)
+    let mut buffers = answers.chunks_exact_mut(2).zip(ends.chunks_exact_mut(2));
+    walk(surface, marks, search, budget, |placed, _| {
+        let (pair, run) = buffers.next().expect("two numbers and two bytes a mark");
+        pair.copy_from_slice(&placed.pair);
+        run.copy_from_slice(&[placed.end, placed.origin]);
     })
 }
 
-/// Places the marks in order and hands each pair, with the units then left, to `placed`.
+/// Places the marks in order and hands each answer, with the units then left, to `placed`.
 pub fn walk(
     surface: &Surface,
     marks: &[f64],
     search: &Search,
     budget: u64,
-    mut placed: impl FnMut(Pair, u64),
+    placed: impl FnMut(Placed, u64),
 ) -> Ended {
-    let mut left = budget;
-    let refused = (|| {
-        let shell = Shell::new(surface).map_err(|refusal| (refusal, 0))?;
-        search.check().map_err(|refusal| (refusal, 0))?;
-        let mut search = *search;
-        for (index, mark) in marks.chunks_exact(3).enumerate() {
-            let pair = place(&shell, [mark[0], mark[1], mark[2]], &search, &mut left)
-                .map_err(|refusal| (refusal, index))?;
-            placed(pair, left);
-            search.hint = Some(pair);
-        }
-        Ok(())
-    })()
-    .err();
-    Ended { refused, left }
+    let by = By {
+        invert: Shell::invert,
+        pair: |placed| placed.pair,
+    };
+    by.walk(surface, marks, search, budget, placed)
 }
 
-fn place(shell: &Shell, mark: Point, search: &Search, left: &mut u64) -> Result<Pair, Refusal> {
-    refusals::finite(&mark)?;
-    search.check()?;
-    let spent = shell.invert(mark, search, *left);
-    *left = spent.left;
-    spent.answer
+/// The pairs of a row, by the source as published and nothing else.
+pub fn pairs(
+    surface: &Surface,
+    marks: &[f64],
+    search: &Search,
+    budget: u64,
+    placed: impl FnMut(Pair, u64),
+) -> Ended {
+    let by = By {
+        invert: Shell::pair,
+        pair: |pair| *pair,
+    };
+    by.walk(surface, marks, search, budget, placed)
+}
+
+/// How a mark is placed, and the pair that the answer holds.
+struct By<T> {
+    invert: fn(&Shell, Point, &Search, u64) -> Spent<T>,
+    pair: fn(&T) -> Pair,
+}
+
+impl<T> By<T> {
+    fn walk(
+        &self,
+        surface: &Surface,
+        marks: &[f64],
+        search: &Search,
+        budget: u64,
+        mut placed: impl FnMut(T, u64),
+    ) -> Ended {
+        let mut left = budget;
+        let refused = (|| {
+            let shell = Shell::new(surface).map_err(|refusal| (refusal, 0))?;
+            search.check().map_err(|refusal| (refusal, 0))?;
+            let mut search = *search;
+            for (index, mark) in marks.as_chunks().0.iter().enumerate() {
+                let answer = self
+                    .place(&shell, *mark, &search, &mut left)
+                    .map_err(|refusal| (refusal, index))?;
+                search.hint = Some((self.pair)(&answer));
+                placed(answer, left);
+            }
+            Ok(())
+        })()
+        .err();
+        Ended { refused, left }
+    }
+
+    fn place(
+        &self,
+        shell: &Shell,
+        mark: Point,
+        search: &Search,
+        left: &mut u64,
+    ) -> Result<T, Refusal> {
+        refusals::finite(&mark)?;
+        search.check()?;
+        let spent = (self.invert)(shell, mark, search, *left);
+        *left = spent.left;
+        spent.answer
+    }
 }

@@ -1,10 +1,12 @@
 use oracle::answers::{KINDS, records};
-use oracle::calls::{Shell, Surface, invert, price};
+use oracle::calls::{Placed, Shell, Surface, invert, price};
 use oracle::figures;
-use oracle::generate::{Case, Random, SETS, brinks, inversion, row};
+use oracle::generate::{Case, Random, Row, SETS, brinks, inversion, row};
 use oracle::job::{Job, MOST_BYTES, print};
+use oracle::misses::{kinds, measure};
 use oracle::refusals::Refusal;
 use oracle::replay::differing;
+use oracle::row::{pairs, walk};
 use std::collections::{BTreeMap, BTreeSet};
 
 const SEED: u64 = 20_261_115;
@@ -37,8 +39,8 @@ fn job() -> Vec<u8> {
 
 #[test]
 fn job_prints_byte_for_byte() {
-    let printout = "marks 2\n3fd0000000000000 3fe0000000000000 908\n\
-                    3fd0000000000000 3fe0000000000000 814\n";
+    let printout = "marks 2\n3fd0000000000000 3fe0000000000000 908 0\n\
+                    3fd0000000000000 3fe0000000000000 814 0\n";
     assert_eq!(print(&job()), printout);
 }
 
@@ -109,24 +111,26 @@ fn price_is_the_least_budget_that_answers() {
     }
 }
 
-/// A row is its marks placed one by one, and touches nothing but their pairs.
+/// A row is its marks placed one by one, and touches nothing but their pairs and ends.
 #[test]
 fn rows_are_chains_of_inversions() {
     let mut random = Random::new(2);
     for _ in 0..1000 {
         let case = row(&mut random);
-        let mut answers = case.answers.clone();
+        let (mut answers, mut ends) = (case.answers.clone(), case.ends.clone());
         let ended = oracle::row::row(
             &case.surface,
             &case.marks,
             &case.search,
             case.budget,
             &mut answers,
+            &mut ends,
         );
         let sound = Shell::new(&case.surface).is_ok() && case.search.check().is_ok();
-        let fits = case.marks.len() % 3 == 0 && case.answers.len() >= case.marks.len() / 3 * 2;
+        let room = case.answers.len().min(case.ends.len());
+        let fits = case.marks.len().is_multiple_of(3) && room >= case.marks.len() / 3 * 2;
         let (mut search, mut left) = (case.search, case.budget);
-        let mut expected = case.answers.clone();
+        let (mut expected, mut runs) = (case.answers.clone(), case.ends.clone());
         let mut refused = None;
         for (index, mark) in case.marks.as_chunks::<3>().0.iter().enumerate() {
             if !fits || !sound {
@@ -134,21 +138,53 @@ fn rows_are_chains_of_inversions() {
             }
             let spent = invert(&case.surface, *mark, &search, left);
             left = spent.left;
-            let Ok(pair) = spent.answer else {
+            let Ok(Placed { pair, end, origin }) = spent.answer else {
                 refused = spent.answer.err().map(|refusal| (refusal, index));
                 break;
             };
-            expected[2 * index..2 * index + 2].copy_from_slice(&pair);
+            expected[2 * index..][..2].copy_from_slice(&pair);
+            runs[2 * index..][..2].copy_from_slice(&[end, origin]);
             search.hint = Some(pair);
         }
         let bits = |numbers: &[f64]| numbers.iter().map(|x| x.to_bits()).collect::<Vec<_>>();
         assert_eq!(bits(&answers), bits(&expected));
+        assert_eq!(ends, runs);
         assert_eq!(ended.left, left);
-        if fits && sound {
+        if !fits {
+            assert_eq!(ended.refused, Some((Refusal::Row, 0)));
+        } else if sound {
             assert_eq!(ended.refused, refused);
         } else {
             assert!(ended.refused.is_some_and(|(_, index)| index == 0));
         }
+    }
+}
+
+/// A row's pairs are those of the source as published alone.
+#[test]
+fn pairs_of_rows_are_the_published_ones() {
+    let mut random = Random::new(4);
+    for _ in 0..1000 {
+        let case = row(&mut random);
+        let (mut placed, mut published) = (Vec::new(), Vec::new());
+        let Row {
+            surface,
+            marks,
+            search,
+            budget,
+            ..
+        } = &case;
+        let bits = |pair: [f64; 2]| pair.map(f64::to_bits);
+        let ended = [
+            walk(surface, marks, search, *budget, |answer, left| {
+                placed.push((bits(answer.pair), left));
+            }),
+            pairs(surface, marks, search, *budget, |pair, left| {
+                published.push((bits(pair), left));
+            }),
+        ];
+        assert_eq!(placed, published);
+        assert_eq!(ended[0], ended[1]);
     }
 }
 
@@ -231,4 +267,32 @@ fn sets_hold_enough_answers() {
     assert!(total(&["plane", "derivative", "nurbs_singular"]) >= 2000);
     assert!(total(&["row"]) >= 1500);
     assert!(total(&["job"]) >= 500);
+}
+
+/// Each end, and each origin, of twenty inversions at least in the set of that name.
+#[test]
+fn inversions_hold_each_end_and_origin() {
+    let set = SETS.iter().find(|set| set.name == "inversion");
+    let cases = (set.expect("there is such a set").cases)(&mut Random::new(SEED));
+    let (mut ends, mut origins) = ([0; 5], [0; 7]);
+    for case in cases {
+        if let Case::Invert(case) = case
+            && let Ok(placed) = invert(&case.surface, case.mark, &case.search, case.budget).answer
+        {
+            ends[usize::from(placed.end)] += 1;
+            origins[usize::from(placed.origin)] += 1;
+        }
+    }
+    assert!(ends.iter().all(|&count| count >= 20), "{ends:?}");
+    assert!(origins.iter().all(|&count| count >= 20), "{origins:?}");
+}
+
+/// What pairs are held to by the command `ends` is never further than they are.
+#[test]
+fn nothing_is_nearer_than_the_reference() {
+    let kinds = kinds();
+    let bump = kinds.iter().find(|kind| kind.name == "bump");
+    let marks = measure(bump.expect("there is such a kind"), 20, SEED);
+    assert!(marks.iter().all(|mark| !mark.beaten() && !mark.weak()));
+    assert!(marks.iter().any(|mark| mark.missed()));
 }

@@ -70,6 +70,7 @@ fn row(surface: &Lent, mark: Point) {
         budget,
         index,
         &mut [0.; 4],
+        &mut [0; 4],
     );
     assert_eq!(number, 0);
 }

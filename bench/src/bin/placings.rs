@@ -56,7 +56,7 @@ fn inverted(
     let lent = lent(surface);
     let port = |(mark, search): &(Point, Search)| placed(&lent, *mark, search)[0];
     let rust = |(mark, search): &(Point, Search)| {
-        let spent = shell.invert(*mark, search, u64::MAX);
+        let spent = shell.pair(*mark, search, u64::MAX);
         spent.answer.expect("a mark on the surface is placed")[0]
     };
     compare(name, &inputs, port, rust);
@@ -97,13 +97,16 @@ fn rows(name: &str, surface: &Surface) {
             &mut budget,
             &mut index,
             &mut answers,
+            &mut [0; 200],
         );
         assert_eq!(number, 0, "marks on the surface are placed");
         answers[199]
     };
     let rust = |marks: &Vec<f64>| {
         let mut answers = [0.; 200];
-        let ended = row::row(surface, marks, &search(None), u64::MAX, &mut answers);
+        let mut pairs = answers.as_chunks_mut().0.iter_mut();
+        let placed = |pair, _| *pairs.next().expect("as many as marks") = pair;
+        let ended = row::pairs(surface, marks, &search(None), u64::MAX, placed);
         assert!(ended.refused.is_none(), "marks on the surface are placed");
         answers[199]
     };

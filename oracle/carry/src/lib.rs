@@ -1,11 +1,27 @@
-//! Carries files of the source into a build, unchanged but for lines appended.
+//! Carries files of the source into a build, unchanged but for lines appended, and copies of
+//! them with lines inserted at named places.
+mod insert;
+
+pub use insert::{Place, places};
 use std::path::{Path, PathBuf};
 use std::{env, fs, process};
 
-/// One file of the source, or a stand-in for one that is missing.
+/// One file of the source, a copy of one, or a stand-in for one that is missing.
 pub enum File<'a> {
-    Original { name: &'a str, appended: &'a str },
-    StandIn { name: &'a str, text: &'a str },
+    Original {
+        name: &'a str,
+        appended: &'a str,
+    },
+    /// A second copy of the file `name`, with a line more at each place.
+    Copy {
+        name: &'a str,
+        target: &'a str,
+        places: &'a [Place<'a>],
+    },
+    StandIn {
+        name: &'a str,
+        text: &'a str,
+    },
 }
 
 /// A file of the source to which nothing is appended.
@@ -13,14 +29,17 @@ pub const fn original(name: &str) -> File<'_> {
     File::Original { name, appended: "" }
 }
 
-/// Lays `files` of a source folder out below `OUT_DIR` and writes `root.rs` there,
-/// which declares the first of them as the module of `declaration`.
-pub fn carry(folder: &str, files: &[File], declaration: &str) {
+/// Lays `files` of a source folder out below `OUT_DIR` and writes `root.rs` there, which
+/// declares the first of them as the modules of `declarations`.
+pub fn carry(folder: &str, files: &[File], declarations: &[&str]) {
     let from = source_root().join(folder);
     let to = PathBuf::from(env::var_os("OUT_DIR").expect("a build script runs under cargo"));
-    let written: Vec<PathBuf> = files.iter().map(|file| lay_out(file, &from, &to)).collect();
-    let module = format!("#[path = {:?}]\n{declaration};\n", written[0]);
-    fs::write(to.join("root.rs"), module).expect("OUT_DIR can be written");
+    let written = files.iter().map(|file| lay_out(file, &from, &to));
+    let written: Vec<PathBuf> = written.collect();
+    let modules = written.iter().zip(declarations);
+    let module = |(path, declaration)| format!("#[path = {path:?}]\n{declaration};\n");
+    let root: String = modules.map(module).collect();
+    fs::write(to.join("root.rs"), root).expect("OUT_DIR can be written");
 }
 
 /// `TESSSTEP_SRC`, or else the folder `shared/docs/src` beside the repository.
@@ -34,32 +53,55 @@ fn lay_out(file: &File, from: &Path, to: &Path) -> PathBuf {
     match *file {
         File::Original { name, appended } => {
             let text = read(&from.join(name));
-            let target = write(
-                &to.join(name),
-                &[text.as_slice(), appended.as_bytes()].concat(),
+            let whole = text.clone() + appended;
+            let target = write(&to.join(name), &whole);
+            assert!(
+                read_back(&target).starts_with(&text),
+                "{name} lost some of its text"
             );
-            let whole = fs::read(&target).expect("the file was just written");
-            assert!(whole.starts_with(&text), "{name} lost some of its text");
             target
         }
-        File::StandIn { name, text } => write(&to.join(name), text.as_bytes()),
+        File::Copy {
+            name,
+            target,
+            places,
+        } => {
+            let text = read(&from.join(name));
+            let patched = insert::inserted(&text, places)
+                .unwrap_or_else(|missing| stop(&format!("The source file {name} {missing}")));
+            let target = write(&to.join(target), &patched);
+            assert!(
+                insert::removed(&read_back(&target), places) == text,
+                "without the lines inserted, the copy of {name} is another text"
+            );
+            target
+        }
+        File::StandIn { name, text } => write(&to.join(name), text),
     }
 }
 
-fn read(path: &Path) -> Vec<u8> {
+fn read(path: &Path) -> String {
     println!("cargo:rerun-if-changed={}", path.display());
-    fs::read(path).unwrap_or_else(|_| {
-        eprintln!(
+    fs::read_to_string(path).unwrap_or_else(|_| {
+        stop(&format!(
             "The source file {} is missing: put the folder shared beside the repository \
              or set TESSSTEP_SRC to its docs/src.",
             path.display()
-        );
-        process::exit(1)
+        ))
     })
 }
 
-fn write(path: &Path, text: &[u8]) -> PathBuf {
+fn stop(message: &str) -> ! {
+    eprintln!("{message}");
+    process::exit(1)
+}
+
+fn write(path: &Path, text: &str) -> PathBuf {
     fs::create_dir_all(path.parent().expect("a file has a folder")).expect("OUT_DIR is ours");
     fs::write(path, text).expect("OUT_DIR can be written");
     path.to_path_buf()
+}
+
+fn read_back(path: &Path) -> String {
+    fs::read_to_string(path).expect("the file was just written")
 }

@@ -14,5 +14,5 @@ fn main() {
         original("spline/knots.rs"),
         span,
     ];
-    carry("crates/tessstep-curves/src", &files, "mod carried");
+    carry("crates/tessstep-curves/src", &files, &["mod carried"]);
 }

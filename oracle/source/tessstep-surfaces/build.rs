@@ -6,5 +6,5 @@ fn main() {
         appended: include_str!("../../appended/nurbs.rs"),
     };
     let files = [original("lib.rs"), original("analytic.rs"), nurbs];
-    carry("crates/tessstep-surfaces/src", &files, "mod carried");
+    carry("crates/tessstep-surfaces/src", &files, &["mod carried"]);
 }

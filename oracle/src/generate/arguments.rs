@@ -93,7 +93,7 @@ impl Ground {
             tolerance: f64::MAX,
             periods: [None; 2],
         };
-        let end = self.shell.as_ref()?.invert(mark, &any, 33).answer.ok()?;
+        let end = self.shell.as_ref()?.pair(mark, &any, 33).answer.ok()?;
         let reached = distance(self.point(end)?, mark);
         Some(r.pick(&[reached, reached, reached.next_down(), reached.next_up()]))
     }

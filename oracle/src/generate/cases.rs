@@ -241,12 +241,14 @@ pub fn row_on(r: &mut Random, surface: Surface) -> Row {
     }
     let price = row_price(&ground.surface, &marks, &search);
     let answers = buffer(r, marks.len() / 3 * 2);
+    let ends = bytes(&mut r.aside(), marks.len() / 3 * 2);
     Row {
         surface: ground.surface,
         marks,
         search,
         budget: budget(r, price),
         answers,
+        ends,
     }
 }
 
@@ -282,6 +284,18 @@ fn buffer(r: &mut Random, needed: usize) -> Vec<f64> {
         _ => needed + r.below(6),
     };
     (0..length).map(|_| r.special()).collect()
+}
+
+/// Bytes that are at times more than needed, rarely fewer.
+fn bytes(r: &mut Random, needed: usize) -> Vec<u8> {
+    let length = match r.below(100) {
+        0..3 => needed.saturating_sub(1),
+        3 => needed / 2,
+        4 => 0,
+        5..50 => needed,
+        _ => needed + r.below(6),
+    };
+    (0..length).map(|_| r.word() as u8).collect()
 }
 
 pub fn row_price(surface: &Surface, marks: &[f64], search: &Search) -> u64 {

@@ -13,6 +13,12 @@ impl Random {
         Self(!self.0)
     }
 
+    /// A stream for one buffer; drawing from it leaves this one where it is. Other places of
+    /// this stream give others.
+    pub fn aside(&self) -> Self {
+        Self(!Self(self.0).word())
+    }
+
     pub fn word(&mut self) -> u64 {
         self.0 = self.0.wrapping_add(0x9e37_79b9_7f4a_7c15);
         let z = (self.0 ^ (self.0 >> 30)).wrapping_mul(0xbf58_476d_1ce4_e5b9);

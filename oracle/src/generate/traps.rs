@@ -1,5 +1,6 @@
 //! The cases that TRAPS.md lists, by its numbers, and a few more from the rim.
 use super::cases::row_price;
+use super::ends;
 use super::random::power;
 use super::{Case, Inversion, Row};
 use crate::calls::{Pair, Point, Search, Surface, price};
@@ -7,21 +8,21 @@ use crate::job::{Job, MOST_BYTES};
 use crate::small::{Axis, KnotSide};
 
 const MARK: Point = [0.25, 0.5, 0.75];
-const FREE: Search = Search {
+pub const FREE: Search = Search {
     hint: None,
     tolerance: 0.5,
     periods: [None; 2],
 };
 const FLAGS: [[bool; 2]; 4] = [[false, false], [true, false], [false, true], [true, true]];
 
-fn hinted(u: f64, v: f64) -> Search {
+pub fn hinted(u: f64, v: f64) -> Search {
     Search {
         hint: Some([u, v]),
         ..FREE
     }
 }
 
-fn tolerant(search: Search, tolerance: f64) -> Search {
+pub fn tolerant(search: Search, tolerance: f64) -> Search {
     Search {
         tolerance,
         ..search
@@ -70,7 +71,7 @@ fn far_square() -> Surface {
 }
 
 /// A parabola z = x² over x from -1 to 1, drawn along y.
-fn parabola() -> Surface {
+pub fn parabola() -> Surface {
     let row = |x, z| [[x, 0., z], [x, 1., z]];
     Surface {
         degrees: [2, 1],
@@ -111,7 +112,7 @@ fn light() -> Surface {
 }
 
 /// An inversion at its price and with one unit less.
-fn at_price(surface: &Surface, mark: Point, search: Search) -> [Case; 2] {
+pub fn at_price(surface: &Surface, mark: Point, search: Search) -> [Case; 2] {
     let price = price(surface, mark, &search);
     [price, price.saturating_sub(1)].map(|budget| {
         Case::Invert(Inversion {
@@ -149,7 +150,7 @@ pub fn spline() -> Vec<Case> {
     cases
 }
 
-fn bezier(degree: usize) -> Axis {
+pub fn bezier(degree: usize) -> Axis {
     Axis {
         degree,
         controls: degree + 1,
@@ -301,7 +302,7 @@ fn all_along() -> Vec<Pair> {
     [0., 0.25, 0.3, 0.5, 0.9, 1.].map(|t| [t, 1. - t]).to_vec()
 }
 
-/// Traps 1 to 12, 15, 16 and 19, on all four pairs of flags.
+/// Traps 1 to 12, 15, 16 and 19, on all four pairs of flags, and 22 to 25.
 pub fn inversion() -> Vec<Case> {
     let square = Surface::square;
     let tenfold = || times(square(), 10., 10.);
@@ -383,6 +384,7 @@ pub fn inversion() -> Vec<Case> {
         cases.extend(at_price(&surface, MARK, hinted(0., 0.)));
     }
     cases.extend(dense_inversions());
+    cases.extend(ends::cases());
     cases
 }
 
@@ -461,6 +463,7 @@ pub fn row() -> Vec<Case> {
                     search,
                     budget,
                     answers: vec![7.; marks.len() / 3 * 2 + 1],
+                    ends: bytes(marks.len() / 3 * 2 + 1),
                 }));
             }
         }
@@ -469,23 +472,40 @@ pub fn row() -> Vec<Case> {
     cases
 }
 
-/// Faults of the surface, the search, the marks and the buffer, one beside the other.
+/// Faults of the surface, the search, the marks and the buffers, one beside the other.
 fn row_orders() -> Vec<Case> {
     let mut cases = Vec::new();
     for surface in [Surface::square(), with_faults(&FAULTS[4..5])] {
         for tolerance in [0.5, f64::INFINITY] {
-            for (marks, buffer) in [(3, 2), (3, 1), (4, 4), (0, 0), (5, 1), (6, 3)] {
+            // Counts of the marks' numbers, the answers and the bytes.
+            let with_enough_bytes = [(3, 2), (3, 1), (4, 4), (0, 0), (5, 1), (6, 3)];
+            let with_enough_bytes = with_enough_bytes.map(|(marks, answers)| (marks, answers, 4));
+            let others = [
+                (3, 2, 1),
+                (3, 2, 0),
+                (6, 4, 3),
+                (4, 4, 1),
+                (6, 3, 2),
+                (0, 0, 0),
+            ];
+            for (marks, answers, ends) in [with_enough_bytes, others].concat() {
                 cases.push(Case::Row(Row {
                     surface: surface.clone(),
                     marks: vec![0.5; marks],
                     search: tolerant(FREE, tolerance),
                     budget: 1000,
-                    answers: vec![7.; buffer],
+                    answers: vec![7.; answers],
+                    ends: bytes(ends),
                 }));
             }
         }
     }
     cases
+}
+
+/// Bytes that no end and no origin is, each another.
+fn bytes(count: usize) -> Vec<u8> {
+    (0..count).map(|place| 255 - place as u8).collect()
 }
 
 /// Trap 18, and the job of 01.
