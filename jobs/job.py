@@ -3,12 +3,13 @@
 
     job.py pack   < TEXT     > JOB      a job in words, as the file that the placing program reads
     job.py unpack < JOB      > TEXT     and back
-    job.py read   < PRINTOUT            a whole printout, with its numbers in decimal
-    job.py check  JOB PRINTOUT          how far each pair's surface point lies from its mark
+    job.py read   < PRINTOUT            a whole printout, with its numbers in decimal and its ends in words
+    job.py check  JOB PRINTOUT          how each pair's run ended, and how far its surface point lies from its mark
 
 Status 0: all is well. 1: the input is not what it should be; a printout is whole where it has
-as many pairs as its first line says, or a refusal after fewer, and ends in a newline. 2: not
-called as above. 3: the job was refused. 4: a pair lies further from its mark than the tolerance.
+as many pairs as its first line says, or a refusal after fewer, each pair's line has the digit of
+its end, and it ends in a newline. 2: not called as above. 3: the job was refused. 4: a pair lies
+further from its mark than the tolerance.
 
 `check` evaluates by the library itself, libplacing.so: the one that PLACING_LIBRARY names,
 else the one beside this file, else the repository's own, which is built where need be.
@@ -43,6 +44,7 @@ from typing import NamedTuple
 MOST_BYTES = 32768
 PERIODIC = {"no": 0, "yes": 1}
 REFUSED, FURTHER = 3, 4
+ENDS = ("unchanged", "next point further", "small step", "second singular point", "32 rounds")
 
 
 class Malformed(Exception):
@@ -73,9 +75,12 @@ class Printout(NamedTuple):
 
 
 class Pair(NamedTuple):
+    """A pair, the budget left, and how its run ended: an index of ENDS."""
+
     u: float
     v: float
     left: int
+    end: int
 
 
 def number(word):
@@ -222,7 +227,8 @@ def unpack(data):
 
 DECIMAL = "(0|[1-9][0-9]*)"
 MARKS = re.compile(f"marks {DECIMAL}")
-PAIR = re.compile(f"([0-9a-f]{{16}}) ([0-9a-f]{{16}}) {DECIMAL}")
+EARLIER = f"([0-9a-f]{{16}}) ([0-9a-f]{{16}}) {DECIMAL}"
+PAIR = re.compile(f"{EARLIER} ([0-4])")
 REFUSAL = re.compile(f"refused {DECIMAL} at {DECIMAL}")
 
 
@@ -249,9 +255,16 @@ def whole_printout(text):
 def pair(line):
     found = PAIR.fullmatch(line)
     if not found:
-        raise Malformed(f"`{line}` is no line of a printout")
+        raise Malformed(f"the printout is not whole: `{line}` {fault(line)}")
     u, v = (value(bytes.fromhex(bits)[::-1]) for bits in found.groups()[:2])
-    return Pair(u, v, int(found[3]))
+    return Pair(u, v, int(found[3]), int(found[4]))
+
+
+def fault(line):
+    """Of a line that has no pair with its end."""
+    if re.fullmatch(EARLIER, line):
+        return "does not say how its run ended, as in the printouts of an earlier program"
+    return "is no line of a printout"
 
 
 def refusal_line(printout):
@@ -259,10 +272,11 @@ def refusal_line(printout):
 
 
 def read(text):
-    """The printout in decimal, and the status."""
+    """The printout in decimal and words, and the status."""
     printout = whole_printout(text)
     lines = [] if printout.marks is None else [f"marks {printout.marks}"]
-    lines += [f"u {p.u!r} v {p.v!r} left {p.left}" for p in printout.pairs] + refusal_line(printout)
+    lines += [f"u {p.u!r} v {p.v!r} left {p.left} end {ENDS[p.end]}" for p in printout.pairs]
+    lines += refusal_line(printout)
     return "".join(line + "\n" for line in lines), REFUSED if printout.refusal else 0
 
 
@@ -312,7 +326,7 @@ def distance(a, b):
 
 
 def check(data, text):
-    """A line a pair with its distance, and the status."""
+    """A line a pair with its end and its distance, and the status."""
     job, printout = parse(data), whole_printout(text)
     if printout.marks not in (None, len(job.marks)):
         raise Malformed(f"the job has {len(job.marks)} marks and the printout {printout.marks}")
@@ -322,7 +336,7 @@ def check(data, text):
         far = distance(at(p.u, p.v), map(value, mark))
         above = not far <= tolerance
         further += above
-        lines.append(f"mark {i} distance {far!r}" + (f" ABOVE the tolerance {tolerance!r}" if above else ""))
+        lines.append(f"mark {i} end {ENDS[p.end]} distance {far!r}" + (f" ABOVE the tolerance {tolerance!r}" if above else ""))
     status = REFUSED if printout.refusal else FURTHER if further else 0
     return "".join(line + "\n" for line in lines + refusal_line(printout)), status
 

@@ -4,6 +4,7 @@
 import errno
 import fcntl
 import os
+import re
 import shutil
 import socket
 import struct
@@ -20,7 +21,7 @@ import job
 HERE = Path(__file__).resolve().parent
 SQUARE = (HERE / "square.job").read_bytes()
 TEXT = (HERE / "square.txt").read_text()
-PRINTED = b"marks 2\n3fd0000000000000 3fe0000000000000 908\n3fd0000000000000 3fe0000000000000 814\n"
+PRINTED = b"marks 2\n3fd0000000000000 3fe0000000000000 908 0\n3fd0000000000000 3fe0000000000000 814 0\n"
 MALFORMED = b"refused 12 at 0\n"
 program = ""
 
@@ -194,6 +195,7 @@ class Service(unittest.TestCase):
                 ran = subprocess.run([Path(box, "place-and-check"), name], cwd=jobs, capture_output=True, timeout=60)
                 self.assertEqual((ran.returncode, ran.stdout, bool(ran.stderr)), (status, b"", name == "unread"))
                 self.assertEqual(Path(jobs, name + ".printout").exists(), status == 0)
+            self.assertIn("mark 1 end unchanged distance 0.75\n", Path(jobs, "near.distances").read_text())
 
 
 class Words(unittest.TestCase):
@@ -241,17 +243,42 @@ class Printouts(unittest.TestCase):
                     self.assertRaises(job.Malformed, job.whole_printout, part)
 
     def test_not_whole(self):
-        pair = "3fd0000000000000 3fe0000000000000 908\n"
+        pair = "3fd0000000000000 3fe0000000000000 908 0\n"
         for text in (pair, "marks 1\n" + pair * 2, "marks 2\n" + pair + "refused 9 at 0\n", "marks 1\n" + pair + "refused 9 at 1\n",
                      "marks 1\nrefused 9 at 0\n" + pair, "marks 01\n" + pair, "marks 1\n" + pair.upper(), "marks 1\n\n" + pair,
                      "refused 4 at 0\n", "marks 0\n" + pair, "marks 1\r\n" + pair):
             self.assertRaises(job.Malformed, job.whole_printout, text)
 
+    def test_ends(self):
+        pair = "marks 1\n3fd0000000000000 3fe0000000000000 908"
+        for digit, words in enumerate(job.ENDS):
+            self.assertEqual(job.read(f"{pair} {digit}\n"), (f"marks 1\nu 0.25 v 0.5 left 908 end {words}\n", 0))
+        for end in (" 5", " 9", " 00", " 01", " -1", " +1", " 0x0", " ", "  0", " 0 ", " 0 0", "\t0", " \u0661", " a"):
+            self.assertRaises(job.Malformed, job.whole_printout, f"{pair}{end}\n")
+
+    def test_the_words_of_an_end_are_those_of_the_header(self):
+        header = (HERE.parent / "bindings" / "c" / "placing.h").read_text()
+        self.assertEqual(tuple(re.findall(r'case PLACING_END_\w+:\s+return "(.*)";', header)), job.ENDS)
+
+    def test_cut_before_the_digit(self):
+        front = PRINTED.decode().removesuffix("814 0\n")
+        for rest in ("", "8", "814", "814 ", "814 0", "\n", "8\n", "814\n", "814 \n"):
+            self.assertRaises(job.Malformed, job.whole_printout, front + rest)
+        self.assertEqual(len(job.whole_printout(front + "814 0\n").pairs), 2)
+
+    def test_the_earlier_form_is_told(self):
+        earlier = PRINTED.replace(b" 0\n", b"\n")
+        ran = run_job("read", text=earlier)
+        self.assertEqual((ran.returncode, ran.stdout), (1, b""))
+        self.assertIn(b"not whole: `3fd0000000000000 3fe0000000000000 908` does not say how its run ended", ran.stderr)
+        mixed = PRINTED.replace(b"814 0\n", b"814\n")
+        self.assertIn(b"814` does not say how its run ended", run_job("read", text=mixed).stderr)
+
     def test_status(self):
         for text, status in ((PRINTED, 0), (MALFORMED, 3), (b"marks 1\nrefused 8 at 0\n", 3), (PRINTED[:-2], 1), (b"", 1)):
             ran = run_job("read", text=text)
             self.assertEqual((ran.returncode, bool(ran.stdout), bool(ran.stderr)), (status, status != 1, status == 1))
-        self.assertIn(b"u 0.25 v 0.5 left 814\n", run_job("read", text=PRINTED).stdout)
+        self.assertIn(b"u 0.25 v 0.5 left 814 end unchanged\n", run_job("read", text=PRINTED).stdout)
 
 
 class Distances(unittest.TestCase):
@@ -265,11 +292,11 @@ class Distances(unittest.TestCase):
 
     def test_marks_beyond_the_tolerance(self):
         near = self.check(TEXT.replace("tolerance 0.5", "tolerance 0.75"))
-        self.assertEqual((near.returncode, near.stdout), (0, b"mark 0 distance 0.75\nmark 1 distance 0.75\n"))
+        self.assertEqual((near.returncode, near.stdout), (0, b"mark 0 end unchanged distance 0.75\nmark 1 end unchanged distance 0.75\n"))
         far = self.check(TEXT + "mark 0.25 0.5 1e9\nmark 0.5 0.5 0.5\n")
         self.assertEqual(far.returncode, 4)
         self.assertEqual([b"ABOVE" in line for line in far.stdout.splitlines()], [True, True, True, False])
-        self.assertIn(b"mark 2 distance 1000000000.0 ABOVE the tolerance 0.5\n", far.stdout)
+        self.assertIn(b"mark 2 end unchanged distance 1000000000.0 ABOVE the tolerance 0.5\n", far.stdout)
 
     def test_a_refused_job(self):
         short = self.check(TEXT.replace("budget 1000", "budget 100"))

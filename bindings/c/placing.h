@@ -7,8 +7,8 @@
  * an empty std::vector.
  *
  * What lies past what a function writes keeps its bits. A refusal leaves all as it was, but for the
- * budget, which is what is left of it, and in a row the index and the pairs of the marks before the
- * refused one.
+ * budget, which is what is left of it, and in a row the index and the pairs and ends of the marks
+ * before the refused one.
  *
  * Nothing is shared between calls: any number of threads may call at once, on one surface too, each
  * with room of its own for what is written. A call takes at most 128 KiB of stack, and placing_job
@@ -68,7 +68,8 @@ static inline const char *placing_refusal_text(uint64_t number) {
     case PLACING_SINGULAR:
         return "the two derivatives of the surface there don't span a plane";
     case PLACING_ROW:
-        return "the marks are not in threes, or the answers have less room than two numbers a mark";
+        return "the marks are not in threes, or there are under two numbers a mark for the "
+               "answers, or under two bytes a mark for the ends";
     case PLACING_MALFORMED:
         return "the job file is malformed";
     case PLACING_MISFIT:
@@ -78,6 +79,37 @@ static inline const char *placing_refusal_text(uint64_t number) {
         return "no refusal has this number";
     }
 }
+
+/* How the run that an inversion chose ended. */
+enum placing_end {
+    PLACING_END_UNCHANGED = 0,  /* the next step leads to the same pair */
+    PLACING_END_FURTHER = 1,    /* the next point is further from the mark, and was not taken */
+    PLACING_END_SMALL_STEP = 2, /* the last move was at most 1e-15 of the wider knot domain */
+    PLACING_END_SINGULAR = 3,   /* nudged once, and again the two directions are too nearly one */
+    PLACING_END_ROUNDS = 4      /* 33 evaluations, and no other test ended it */
+};
+
+/* An end in words. */
+static inline const char *placing_end_text(uint8_t number) {
+    switch (number) {
+    case PLACING_END_UNCHANGED:
+        return "unchanged";
+    case PLACING_END_FURTHER:
+        return "next point further";
+    case PLACING_END_SMALL_STEP:
+        return "small step";
+    case PLACING_END_SINGULAR:
+        return "second singular point";
+    case PLACING_END_ROUNDS:
+        return "32 rounds";
+    default:
+        return "no end has this number";
+    }
+}
+
+/* Where that run came from: the hint, or 1 to 6 for the start's place among the starts of the grid,
+ * the nearest to the mark first. */
+enum { PLACING_ORIGIN_HINT = 0 };
 
 /* A surface, whose arguments PLACING_SURFACE(&surface) lays out. */
 typedef struct placing_surface {
@@ -117,22 +149,26 @@ uint64_t placing_evaluate(PLACING_SURFACE_ARGUMENTS, double u, double v, double 
 /* u and v of the surface point nearest to the mark: two numbers. The hint is none or two numbers,
  * a period none or one: it moves the answer to the hint's turn, and u or v is then infinite where
  * the hint lies too many periods away. budget[0] is the budget of evaluations, and afterwards what
- * is left. */
+ * is left. ended has two bytes: how the run that was chosen ended, an enum placing_end, and where
+ * it came from, PLACING_ORIGIN_HINT or a start's place. */
 uint64_t placing_invert(PLACING_SURFACE_ARGUMENTS, double x, double y, double z, const double *hint,
                         size_t hint_count, double tolerance, const double *period_u,
                         size_t period_u_count, const double *period_v, size_t period_v_count,
-                        uint64_t *budget, size_t budget_count, double *pair, size_t pair_count);
+                        uint64_t *budget, size_t budget_count, double *pair, size_t pair_count,
+                        uint8_t *ended, size_t ended_count);
 
-/* A row of marks, three coordinates each: two numbers a mark. Each pair is the next mark's hint,
- * and one budget serves all. index[0] is afterwards the index of the mark that was refused, and 0
- * where none was. Refusals 1 to 6 and 11 are no mark's fault, and neither is a 7 that a row without
- * marks is refused with too: the hint, the tolerance and the periods are tested before the first
- * mark. A pair may be infinite as above, and is then no hint: the next mark is refused with 7. */
+/* A row of marks, three coordinates each: two numbers a mark to answers, and to ends two bytes a
+ * mark, as those of placing_invert. Each pair is the next mark's hint, and one budget serves all.
+ * index[0] is afterwards the index of the mark that was refused, and 0 where none was. Refusals 1
+ * to 6 and 11 are no mark's fault, and neither is a 7 that a row without marks is refused with too:
+ * the hint, the tolerance and the periods are tested before the first mark. A pair may be infinite
+ * as above, and is then no hint: the next mark is refused with 7. */
 uint64_t placing_row(PLACING_SURFACE_ARGUMENTS, const double *marks, size_t marks_count,
                      const double *hint, size_t hint_count, double tolerance,
                      const double *period_u, size_t period_u_count, const double *period_v,
                      size_t period_v_count, uint64_t *budget, size_t budget_count, uint64_t *index,
-                     size_t index_count, double *answers, size_t answers_count);
+                     size_t index_count, double *answers, size_t answers_count, uint8_t *ends,
+                     size_t ends_count);
 
 /* How u and v move as the surface point at them moves by the vector (x, y, z): two numbers, for a
  * unit of the budget. They may be infinite or NaN. */
@@ -159,7 +195,7 @@ uint64_t placing_plane(double ox, double oy, double oz, double ux, double uy, do
 uint64_t placing_job(const uint8_t *file, size_t file_count, uint8_t *printout,
                      size_t printout_count, uint64_t *written, size_t written_count);
 
-#define PLACING_PRINTOUT_ROOM 69632
+#define PLACING_PRINTOUT_ROOM 72704
 
 #ifdef __cplusplus
 }

@@ -16,6 +16,8 @@ static int failures;
     } while (0)
 #define SAME(numbers, ...)                                                                         \
     (memcmp(numbers, (const double[]){__VA_ARGS__}, sizeof(const double[]){__VA_ARGS__}) == 0)
+#define SAME_BYTES(bytes, ...)                                                                     \
+    (memcmp(bytes, (const uint8_t[]){__VA_ARGS__}, sizeof(const uint8_t[]){__VA_ARGS__}) == 0)
 
 static const double knots[] = {0, 0, 1, 1};
 static const double net[] = {0, 0, 0, 0, 1, 0, 1, 0, 0, 1, 1, 0};
@@ -56,18 +58,20 @@ static void surfaces(void) {
     for (uint64_t i = 1; i < 7; i++) {
         uint64_t budget[1] = {5}, index[1] = {9}, collapsed[4];
         double out[20] = {7};
+        uint8_t ended[2] = {7, 7};
         const double mark[3] = {0};
         EXPECT(placing_evaluate(PLACING_SURFACE(&s[i]), 0, 0, PLACING_ARRAY(out)) == i);
         EXPECT(placing_invert(PLACING_SURFACE(&s[i]), 0, 0, 0, PLACING_NONE, 0, PLACING_NONE,
-                              PLACING_NONE, PLACING_ARRAY(budget), PLACING_ARRAY(out)) == i);
+                              PLACING_NONE, PLACING_ARRAY(budget), PLACING_ARRAY(out),
+                              PLACING_ARRAY(ended)) == i);
         EXPECT(placing_row(PLACING_SURFACE(&s[i]), PLACING_ARRAY(mark), PLACING_NONE, 0,
                            PLACING_NONE, PLACING_NONE, PLACING_ARRAY(budget), PLACING_ARRAY(index),
-                           PLACING_ARRAY(out)) == i);
+                           PLACING_ARRAY(out), PLACING_ARRAY(ended)) == i);
         EXPECT(placing_derivative(PLACING_SURFACE(&s[i]), 0, 0, 1, 0, 0, PLACING_ARRAY(budget),
                                   PLACING_ARRAY(out)) == i);
         EXPECT(placing_nurbs_singular(PLACING_SURFACE(&s[i]), 0, PLACING_ARRAY(collapsed),
                                       PLACING_ARRAY(out)) == i);
-        EXPECT(budget[0] == 5 && index[0] == 0 && out[0] == 7);
+        EXPECT(budget[0] == 5 && index[0] == 0 && out[0] == 7 && SAME_BYTES(ended, 7, 7));
     }
 }
 
@@ -75,37 +79,67 @@ static void invert(void) {
     const double hint[] = {5.25, -2.5, 0}, period[] = {1, 1};
     uint64_t budget[2] = {92, 5};
     double pair[3] = {[2] = 7};
+    uint8_t ended[3] = {9, 9, 7};
     EXPECT(!placing_invert(PLACING_SURFACE(&square), 0.25, 0.5, 0.75, PLACING_NONE, 0.5,
-                           PLACING_NONE, PLACING_NONE, PLACING_ARRAY(budget), PLACING_ARRAY(pair)));
+                           PLACING_NONE, PLACING_NONE, PLACING_ARRAY(budget), PLACING_ARRAY(pair),
+                           PLACING_ARRAY(ended)));
     EXPECT(SAME(pair, 0.25, 0.5, 7) && budget[0] == 0 && budget[1] == 5);
+    EXPECT(SAME_BYTES(ended, PLACING_END_UNCHANGED, 1, 7));
     EXPECT(placing_invert(PLACING_SURFACE(&square), 0.25, 0.5, 0.75, PLACING_NONE, 0.5,
-                          PLACING_NONE, PLACING_NONE, PLACING_ARRAY(budget),
-                          PLACING_ARRAY(pair)) == PLACING_UNITS);
+                          PLACING_NONE, PLACING_NONE, PLACING_ARRAY(budget), PLACING_ARRAY(pair),
+                          PLACING_ARRAY(ended)) == PLACING_UNITS);
+    EXPECT(SAME_BYTES(ended, PLACING_END_UNCHANGED, 1, 7));
     budget[0] = 1000;
     EXPECT(!placing_invert(PLACING_SURFACE(&square), 0.25, 0.5, 0.75, hint, 2, 0.75, period, 1,
-                           PLACING_NONE, PLACING_ARRAY(budget), PLACING_ARRAY(pair)));
+                           PLACING_NONE, PLACING_ARRAY(budget), PLACING_ARRAY(pair),
+                           PLACING_ARRAY(ended)));
     EXPECT(SAME(pair, 5.25, 0.5, 7));
+    EXPECT(SAME_BYTES(ended, PLACING_END_UNCHANGED, PLACING_ORIGIN_HINT, 7));
     EXPECT(!placing_invert(PLACING_SURFACE(&square), 0.25, 0.5, 0.75, hint, 2, 0.75, PLACING_NONE,
-                           period, 1, PLACING_ARRAY(budget), PLACING_ARRAY(pair)));
+                           period, 1, PLACING_ARRAY(budget), PLACING_ARRAY(pair),
+                           PLACING_ARRAY(ended)));
     EXPECT(SAME(pair, 0.25, -2.5, 7));
     budget[0] = 5;
+    ended[0] = ended[1] = 9;
     EXPECT(placing_invert(PLACING_SURFACE(&square), 0, 0, 0, PLACING_NONE, -1, PLACING_NONE,
-                          PLACING_NONE, PLACING_ARRAY(budget),
-                          PLACING_ARRAY(pair)) == PLACING_ARGUMENT);
+                          PLACING_NONE, PLACING_ARRAY(budget), PLACING_ARRAY(pair),
+                          PLACING_ARRAY(ended)) == PLACING_ARGUMENT);
     EXPECT(placing_invert(PLACING_SURFACE(&square), 0, 0, 0, hint, 1, 0, PLACING_NONE, PLACING_NONE,
-                          PLACING_ARRAY(budget), PLACING_ARRAY(pair)) == PLACING_MISFIT);
+                          PLACING_ARRAY(budget), PLACING_ARRAY(pair),
+                          PLACING_ARRAY(ended)) == PLACING_MISFIT);
     EXPECT(placing_invert(PLACING_SURFACE(&square), 0, 0, 0, hint, 3, 0, PLACING_NONE, PLACING_NONE,
-                          PLACING_ARRAY(budget), PLACING_ARRAY(pair)) == PLACING_MISFIT);
+                          PLACING_ARRAY(budget), PLACING_ARRAY(pair),
+                          PLACING_ARRAY(ended)) == PLACING_MISFIT);
     EXPECT(placing_invert(PLACING_SURFACE(&square), 0, 0, 0, PLACING_NONE, 0, period, 2,
-                          PLACING_NONE, PLACING_ARRAY(budget),
-                          PLACING_ARRAY(pair)) == PLACING_MISFIT);
+                          PLACING_NONE, PLACING_ARRAY(budget), PLACING_ARRAY(pair),
+                          PLACING_ARRAY(ended)) == PLACING_MISFIT);
     EXPECT(placing_invert(PLACING_SURFACE(&square), 0, 0, 0, PLACING_NONE, 0, PLACING_NONE, period,
-                          2, PLACING_ARRAY(budget), PLACING_ARRAY(pair)) == PLACING_MISFIT);
+                          2, PLACING_ARRAY(budget), PLACING_ARRAY(pair),
+                          PLACING_ARRAY(ended)) == PLACING_MISFIT);
     EXPECT(placing_invert(PLACING_SURFACE(&square), 0, 0, 0, PLACING_NONE, 0, PLACING_NONE,
-                          PLACING_NONE, budget, 0, PLACING_ARRAY(pair)) == PLACING_MISFIT);
+                          PLACING_NONE, budget, 0, PLACING_ARRAY(pair),
+                          PLACING_ARRAY(ended)) == PLACING_MISFIT);
     EXPECT(placing_invert(PLACING_SURFACE(&square), 0, 0, 0, PLACING_NONE, 0, PLACING_NONE,
-                          PLACING_NONE, PLACING_ARRAY(budget), pair, 1) == PLACING_MISFIT);
-    EXPECT(SAME(pair, 0.25, -2.5, 7) && budget[0] == 5);
+                          PLACING_NONE, PLACING_ARRAY(budget), pair, 1,
+                          PLACING_ARRAY(ended)) == PLACING_MISFIT);
+    EXPECT(placing_invert(PLACING_SURFACE(&square), 0, 0, 0, PLACING_NONE, 0, PLACING_NONE,
+                          PLACING_NONE, PLACING_ARRAY(budget), PLACING_ARRAY(pair), ended,
+                          1) == PLACING_MISFIT);
+    EXPECT(SAME(pair, 0.25, -2.5, 7) && budget[0] == 5 && SAME_BYTES(ended, 9, 9, 7));
+}
+
+/* A surface that is one point has no direction to go in. */
+static void ends(void) {
+    const double zeros[12] = {0};
+    placing_surface dot = square;
+    dot.controls = zeros;
+    uint64_t budget[1] = {83};
+    double pair[2];
+    uint8_t ended[2];
+    EXPECT(!placing_invert(PLACING_SURFACE(&dot), 3, 4, 0, PLACING_NONE, 0, PLACING_NONE,
+                           PLACING_NONE, PLACING_ARRAY(budget), PLACING_ARRAY(pair),
+                           PLACING_ARRAY(ended)));
+    EXPECT(SAME(pair, 0.0000005, 0.0000005) && SAME_BYTES(ended, PLACING_END_SINGULAR, 1));
 }
 
 /* A shift by more periods than a double can count. */
@@ -114,49 +148,62 @@ static void shift(void) {
     const double hint[] = {1e300, 0.5}, period[] = {1e-300};
     uint64_t budget[1] = {1000}, index[1];
     double pair[2], answers[4] = {[2] = 7};
+    uint8_t ended[2], ends[4] = {9, 9, 9, 9};
     EXPECT(!placing_invert(PLACING_SURFACE(&square), 0.25, 0.5, 0.75, PLACING_ARRAY(hint), 1,
                            PLACING_ARRAY(period), PLACING_NONE, PLACING_ARRAY(budget),
-                           PLACING_ARRAY(pair)));
+                           PLACING_ARRAY(pair), PLACING_ARRAY(ended)));
     EXPECT(isinf(pair[0]) && pair[1] == 0.5);
     EXPECT(placing_row(PLACING_SURFACE(&square), PLACING_ARRAY(marks), PLACING_ARRAY(hint), 1,
                        PLACING_ARRAY(period), PLACING_NONE, PLACING_ARRAY(budget),
-                       PLACING_ARRAY(index), PLACING_ARRAY(answers)) == PLACING_ARGUMENT);
+                       PLACING_ARRAY(index), PLACING_ARRAY(answers),
+                       PLACING_ARRAY(ends)) == PLACING_ARGUMENT);
     EXPECT(index[0] == 1 && isinf(answers[0]) && answers[2] == 7);
+    EXPECT(SAME_BYTES(ends, PLACING_END_UNCHANGED, PLACING_ORIGIN_HINT, 9, 9));
 }
 
 static void row(void) {
     const double marks[] = {0.25, 0.5, 0.75, 0.25, 0.5, 0.75};
     uint64_t budget[1] = {1000}, index[2] = {9, 9};
     double answers[5] = {7, 7, 7, 7, 7};
+    uint8_t ends[5] = {9, 9, 9, 9, 7};
+    EXPECT(placing_row(PLACING_SURFACE(&square), PLACING_ARRAY(marks), PLACING_NONE, 0.5,
+                       PLACING_NONE, PLACING_NONE, PLACING_ARRAY(budget), PLACING_ARRAY(index),
+                       PLACING_ARRAY(answers), ends, 3) == PLACING_ROW);
+    EXPECT(SAME(answers, 7, 7, 7, 7, 7) && SAME_BYTES(ends, 9, 9, 9, 9, 7));
+    EXPECT(budget[0] == 1000 && index[0] == 0);
     EXPECT(!placing_row(PLACING_SURFACE(&square), PLACING_ARRAY(marks), PLACING_NONE, 0.5,
                         PLACING_NONE, PLACING_NONE, PLACING_ARRAY(budget), PLACING_ARRAY(index),
-                        PLACING_ARRAY(answers)));
+                        PLACING_ARRAY(answers), PLACING_ARRAY(ends)));
     EXPECT(SAME(answers, 0.25, 0.5, 0.25, 0.5, 7));
+    EXPECT(
+        SAME_BYTES(ends, PLACING_END_UNCHANGED, 1, PLACING_END_UNCHANGED, PLACING_ORIGIN_HINT, 7));
     EXPECT(budget[0] == 814 && index[0] == 0 && index[1] == 9);
     budget[0] = 100;
     answers[2] = 7;
+    memset(ends, 9, 4);
     EXPECT(placing_row(PLACING_SURFACE(&square), PLACING_ARRAY(marks), PLACING_NONE, 0.5,
                        PLACING_NONE, PLACING_NONE, PLACING_ARRAY(budget), PLACING_ARRAY(index),
-                       PLACING_ARRAY(answers)) == PLACING_UNITS);
+                       PLACING_ARRAY(answers), PLACING_ARRAY(ends)) == PLACING_UNITS);
     EXPECT(SAME(answers, 0.25, 0.5, 7, 0.5, 7) && budget[0] == 0 && index[0] == 1);
+    EXPECT(SAME_BYTES(ends, PLACING_END_UNCHANGED, 1, 9, 9, 7));
     EXPECT(placing_row(PLACING_SURFACE(&square), marks, 5, PLACING_NONE, 0.5, PLACING_NONE,
                        PLACING_NONE, PLACING_ARRAY(budget), PLACING_ARRAY(index),
-                       PLACING_ARRAY(answers)) == PLACING_ROW);
+                       PLACING_ARRAY(answers), PLACING_ARRAY(ends)) == PLACING_ROW);
     EXPECT(placing_row(PLACING_SURFACE(&square), PLACING_ARRAY(marks), PLACING_NONE, 0.5,
                        PLACING_NONE, PLACING_NONE, PLACING_ARRAY(budget), PLACING_ARRAY(index),
-                       answers, 3) == PLACING_ROW);
+                       answers, 3, PLACING_ARRAY(ends)) == PLACING_ROW);
     EXPECT(index[0] == 0);
     index[0] = 9;
     EXPECT(placing_row(PLACING_SURFACE(&square), PLACING_ARRAY(marks), marks, 1, 0.5, PLACING_NONE,
                        PLACING_NONE, PLACING_ARRAY(budget), PLACING_ARRAY(index),
-                       PLACING_ARRAY(answers)) == PLACING_MISFIT);
+                       PLACING_ARRAY(answers), PLACING_ARRAY(ends)) == PLACING_MISFIT);
     EXPECT(placing_row(PLACING_SURFACE(&square), PLACING_ARRAY(marks), PLACING_NONE, 0.5,
                        PLACING_NONE, PLACING_NONE, PLACING_ARRAY(budget), index, 0,
-                       PLACING_ARRAY(answers)) == PLACING_MISFIT);
+                       PLACING_ARRAY(answers), PLACING_ARRAY(ends)) == PLACING_MISFIT);
     EXPECT(placing_row(PLACING_SURFACE(&square), PLACING_ARRAY(marks), PLACING_NONE, 0.5,
                        PLACING_NONE, PLACING_NONE, budget, 0, PLACING_ARRAY(index),
-                       PLACING_ARRAY(answers)) == PLACING_MISFIT);
-    EXPECT(index[0] == 9);
+                       PLACING_ARRAY(answers), PLACING_ARRAY(ends)) == PLACING_MISFIT);
+    EXPECT(index[0] == 9 && SAME_BYTES(ends, PLACING_END_UNCHANGED, 1, 9, 9, 7));
 }
 
 static void derivative(void) {
@@ -240,8 +287,8 @@ static void job(void) {
         count = put(file, count, "MK", 2);
         count = put(file, count, mark, sizeof mark);
     }
-    const char expected[] = "marks 2\n3fd0000000000000 3fe0000000000000 908\n"
-                            "3fd0000000000000 3fe0000000000000 814\n\7";
+    const char expected[] = "marks 2\n3fd0000000000000 3fe0000000000000 908 0\n"
+                            "3fd0000000000000 3fe0000000000000 814 0\n\7";
     memset(printout, 7, sizeof printout);
     EXPECT(placing_job(file, count, printout, PLACING_PRINTOUT_ROOM - 1, PLACING_ARRAY(written)) ==
            PLACING_MISFIT);
@@ -258,6 +305,7 @@ static void nothing(void) {
     const double mark[] = {0.25, 0.5, 0.75};
     uint64_t budget[1] = {1000}, index[1] = {9}, collapsed[4];
     double out[20];
+    uint8_t ended[2];
     placing_surface s[4] = {square, square, square, square};
     s[0].knots_u = NULL, s[0].knots_u_count = 0;
     s[1].knots_v = NULL, s[1].knots_v_count = 0;
@@ -267,9 +315,11 @@ static void nothing(void) {
     for (int i = 0; i < 4; i++) {
         EXPECT(placing_evaluate(PLACING_SURFACE(&s[i]), 0, 0, PLACING_ARRAY(out)) == refused[i]);
         EXPECT(placing_invert(PLACING_SURFACE(&s[i]), 0, 0, 0, NULL, 0, 0, NULL, 0, NULL, 0,
-                              PLACING_ARRAY(budget), PLACING_ARRAY(out)) == refused[i]);
+                              PLACING_ARRAY(budget), PLACING_ARRAY(out),
+                              PLACING_ARRAY(ended)) == refused[i]);
         EXPECT(placing_row(PLACING_SURFACE(&s[i]), NULL, 0, NULL, 0, 0, NULL, 0, NULL, 0,
-                           PLACING_ARRAY(budget), PLACING_ARRAY(index), NULL, 0) == refused[i]);
+                           PLACING_ARRAY(budget), PLACING_ARRAY(index), NULL, 0, NULL,
+                           0) == refused[i]);
         EXPECT(placing_derivative(PLACING_SURFACE(&s[i]), 0, 0, 0, 0, 0, PLACING_ARRAY(budget),
                                   PLACING_ARRAY(out)) == refused[i]);
         EXPECT(placing_nurbs_singular(PLACING_SURFACE(&s[i]), 0, PLACING_ARRAY(collapsed),
@@ -280,25 +330,32 @@ static void nothing(void) {
 
     EXPECT(placing_evaluate(PLACING_SURFACE(&square), 0, 0, NULL, 0) == PLACING_MISFIT);
     EXPECT(!placing_invert(PLACING_SURFACE(&square), 0.25, 0.5, 0.75, NULL, 0, 0.5, NULL, 0, NULL,
-                           0, PLACING_ARRAY(budget), PLACING_ARRAY(out)));
+                           0, PLACING_ARRAY(budget), PLACING_ARRAY(out), PLACING_ARRAY(ended)));
     EXPECT(SAME(out, 0.25, 0.5));
     EXPECT(placing_invert(PLACING_SURFACE(&square), 0, 0, 0, NULL, 0, 0, NULL, 0, NULL, 0, NULL, 0,
-                          PLACING_ARRAY(out)) == PLACING_MISFIT);
+                          PLACING_ARRAY(out), PLACING_ARRAY(ended)) == PLACING_MISFIT);
     EXPECT(placing_invert(PLACING_SURFACE(&square), 0, 0, 0, NULL, 0, 0, NULL, 0, NULL, 0,
-                          PLACING_ARRAY(budget), NULL, 0) == PLACING_MISFIT);
+                          PLACING_ARRAY(budget), NULL, 0, PLACING_ARRAY(ended)) == PLACING_MISFIT);
+    EXPECT(placing_invert(PLACING_SURFACE(&square), 0, 0, 0, NULL, 0, 0, NULL, 0, NULL, 0,
+                          PLACING_ARRAY(budget), PLACING_ARRAY(out), NULL, 0) == PLACING_MISFIT);
 
     EXPECT(!placing_row(PLACING_SURFACE(&square), NULL, 0, NULL, 0, 0.5, NULL, 0, NULL, 0,
-                        PLACING_ARRAY(budget), PLACING_ARRAY(index), NULL, 0));
+                        PLACING_ARRAY(budget), PLACING_ARRAY(index), NULL, 0, NULL, 0));
     EXPECT(index[0] == 0);
     EXPECT(!placing_row(PLACING_SURFACE(&square), PLACING_ARRAY(mark), NULL, 0, 0.5, NULL, 0, NULL,
-                        0, PLACING_ARRAY(budget), PLACING_ARRAY(index), PLACING_ARRAY(out)));
+                        0, PLACING_ARRAY(budget), PLACING_ARRAY(index), PLACING_ARRAY(out),
+                        PLACING_ARRAY(ended)));
     EXPECT(SAME(out, 0.25, 0.5));
     EXPECT(placing_row(PLACING_SURFACE(&square), PLACING_ARRAY(mark), NULL, 0, 0.5, NULL, 0, NULL,
-                       0, PLACING_ARRAY(budget), PLACING_ARRAY(index), NULL, 0) == PLACING_ROW);
+                       0, PLACING_ARRAY(budget), PLACING_ARRAY(index), NULL, 0,
+                       PLACING_ARRAY(ended)) == PLACING_ROW);
+    EXPECT(placing_row(PLACING_SURFACE(&square), PLACING_ARRAY(mark), NULL, 0, 0.5, NULL, 0, NULL,
+                       0, PLACING_ARRAY(budget), PLACING_ARRAY(index), PLACING_ARRAY(out), NULL,
+                       0) == PLACING_ROW);
     EXPECT(placing_row(PLACING_SURFACE(&square), NULL, 0, NULL, 0, 0.5, NULL, 0, NULL, 0, NULL, 0,
-                       PLACING_ARRAY(index), NULL, 0) == PLACING_MISFIT);
+                       PLACING_ARRAY(index), NULL, 0, NULL, 0) == PLACING_MISFIT);
     EXPECT(placing_row(PLACING_SURFACE(&square), NULL, 0, NULL, 0, 0.5, NULL, 0, NULL, 0,
-                       PLACING_ARRAY(budget), NULL, 0, NULL, 0) == PLACING_MISFIT);
+                       PLACING_ARRAY(budget), NULL, 0, NULL, 0, NULL, 0) == PLACING_MISFIT);
 
     EXPECT(placing_derivative(PLACING_SURFACE(&square), 0, 0, 1, 0, 0, NULL, 0,
                               PLACING_ARRAY(out)) == PLACING_MISFIT);
@@ -324,12 +381,16 @@ static void nothing(void) {
 static void words(void) {
     EXPECT(!strcmp(placing_refusal_text(PLACING_DEGREE), "a degree is 0 or above 16"));
     EXPECT(!strcmp(placing_refusal_text(13), "no refusal has this number"));
+    EXPECT(!strcmp(placing_end_text(PLACING_END_UNCHANGED), "unchanged"));
+    EXPECT(!strcmp(placing_end_text(PLACING_END_ROUNDS), "32 rounds"));
+    EXPECT(!strcmp(placing_end_text(5), "no end has this number"));
 }
 
 int main(void) {
     evaluate();
     surfaces();
     invert();
+    ends();
     shift();
     row();
     derivative();

@@ -15,6 +15,7 @@ static int failures;
 
 typedef std::vector<double> Numbers;
 typedef std::vector<uint64_t> Counts;
+typedef std::vector<uint8_t> Bytes;
 
 // The point at (u, v) is (u, v, 0).
 struct Square {
@@ -37,11 +38,13 @@ struct Square {
 };
 
 static uint64_t row(const Square &square, const Numbers &marks, const Numbers &hint,
-                    const Numbers &period, Counts &budget, Counts &index, Numbers &answers) {
+                    const Numbers &period, Counts &budget, Counts &index, Numbers &answers,
+                    Bytes &ends) {
     const placing_surface lent = square.lent();
     return placing_row(PLACING_SURFACE(&lent), marks.data(), marks.size(), hint.data(), hint.size(),
                        0.5, period.data(), period.size(), PLACING_NONE, budget.data(),
-                       budget.size(), index.data(), index.size(), answers.data(), answers.size());
+                       budget.size(), index.data(), index.size(), answers.data(), answers.size(),
+                       ends.data(), ends.size());
 }
 
 int main() {
@@ -49,33 +52,42 @@ int main() {
     const Numbers marks{0.25, 0.5, 0.75, 0.25, 0.5, 0.75};
     Counts budget{1000}, index{9}, no_counts;
     Numbers answers(5, 7), no_answers;
+    Bytes ends(5, 7), no_ends;
     EXPECT(none.data() == nullptr);
 
-    EXPECT(row(Square(), marks, none, none, budget, index, answers) == 0);
+    EXPECT(row(Square(), marks, none, none, budget, index, answers, ends) == 0);
     EXPECT(answers == (Numbers{0.25, 0.5, 0.25, 0.5, 7}));
+    EXPECT(ends ==
+           (Bytes{PLACING_END_UNCHANGED, 1, PLACING_END_UNCHANGED, PLACING_ORIGIN_HINT, 7}));
     EXPECT(budget[0] == 814 && index[0] == 0);
-    EXPECT(row(Square(), marks, Numbers{5.25, 0.5}, Numbers{1}, budget, index, answers) == 0);
+    EXPECT(row(Square(), marks, Numbers{5.25, 0.5}, Numbers{1}, budget, index, answers, ends) == 0);
     EXPECT(answers == (Numbers{5.25, 0.5, 5.25, 0.5, 7}));
+    EXPECT(ends[1] == PLACING_ORIGIN_HINT && ends[3] == PLACING_ORIGIN_HINT && ends[4] == 7);
 
-    EXPECT(row(Square(), none, none, none, budget, index, no_answers) == 0);
-    EXPECT(row(Square(), marks, none, none, budget, index, no_answers) == PLACING_ROW);
-    EXPECT(row(Square(), none, none, none, no_counts, index, no_answers) == PLACING_MISFIT);
-    EXPECT(row(Square(), none, none, none, budget, no_counts, no_answers) == PLACING_MISFIT);
+    EXPECT(row(Square(), none, none, none, budget, index, no_answers, no_ends) == 0);
+    EXPECT(row(Square(), marks, none, none, budget, index, no_answers, ends) == PLACING_ROW);
+    EXPECT(row(Square(), marks, none, none, budget, index, answers, no_ends) == PLACING_ROW);
+    EXPECT(row(Square(), none, none, none, no_counts, index, no_answers, no_ends) ==
+           PLACING_MISFIT);
+    EXPECT(row(Square(), none, none, none, budget, no_counts, no_answers, no_ends) ==
+           PLACING_MISFIT);
 
     Square knotless, netless, weightless;
     knotless.knots = netless.net = weightless.weights = none;
-    EXPECT(row(knotless, none, none, none, budget, index, no_answers) == PLACING_KNOTS);
-    EXPECT(row(netless, none, none, none, budget, index, no_answers) == PLACING_CONTROLS);
-    EXPECT(row(weightless, none, none, none, budget, index, no_answers) == PLACING_CONTROLS);
+    EXPECT(row(knotless, none, none, none, budget, index, no_answers, no_ends) == PLACING_KNOTS);
+    EXPECT(row(netless, none, none, none, budget, index, no_answers, no_ends) == PLACING_CONTROLS);
+    EXPECT(row(weightless, none, none, none, budget, index, no_answers, no_ends) ==
+           PLACING_CONTROLS);
 
-    const std::vector<uint8_t> file;
-    std::vector<uint8_t> printout(PLACING_PRINTOUT_ROOM);
+    const Bytes file;
+    Bytes printout(PLACING_PRINTOUT_ROOM);
     Counts written(1);
     EXPECT(placing_job(file.data(), file.size(), printout.data(), printout.size(), written.data(),
                        written.size()) == 0);
     printout.resize(written[0]);
     EXPECT(std::string(printout.begin(), printout.end()) == "refused 12 at 0\n");
     EXPECT(placing_refusal_text(PLACING_MALFORMED) == std::string("the job file is malformed"));
+    EXPECT(placing_end_text(PLACING_END_FURTHER) == std::string("next point further"));
 
     if (failures == 0)
         std::puts("the library's callers in C++: all as it should be");

@@ -1,5 +1,5 @@
 //! Places marks on a dome, one by itself and then a row: cargo run --example place
-use placing::{Edge, Search, Surface};
+use placing::{Edge, Placed, Search, Surface};
 use std::error::Error;
 
 fn main() -> Result<(), Box<dyn Error>> {
@@ -25,22 +25,30 @@ fn main() -> Result<(), Box<dyn Error>> {
     };
 
     let mut budget = 100_000;
-    let [u, v] = dome.invert([1., 1., 3.], &search, &mut budget)?;
-    let at = dome.evaluate([u, v])?;
+    let top = dome.invert([1., 1., 3.], &search, &mut budget)?;
+    let [u, v] = top.pair;
+    let at = dome.evaluate(top.pair)?;
     println!(
         "the mark above the top lies at u {u}, v {v}, which is the point {:?}",
         at.point
     );
+    println!("its run came from {} and ended: {}", top.origin, top.end);
 
     let marks = [[0.5, 0.5, 0.25], [0.75, 0.5, 0.5], [1., 0.5, 0.5]];
     let mut pairs = [[0.; 2]; 3];
-    dome.row(&marks, &search, &mut budget, &mut pairs)?;
-    for [u, v] in pairs {
-        println!("then u {u:.6}, v {v:.6}");
+    let mut ends = [[255; 2]; 3];
+    dome.row(&marks, &search, &mut budget, &mut pairs, &mut ends)?;
+    for (pair, ended) in pairs.into_iter().zip(ends) {
+        let placed = Placed::read(pair, ended).expect("the whole row was placed");
+        let [u, v] = placed.pair;
+        println!(
+            "then u {u:.6}, v {v:.6}, from {}: {}",
+            placed.origin, placed.end
+        );
     }
     println!("{budget} units are left");
 
-    let [du, dv] = dome.derivative([u, v], [1., 0., 0.], &mut budget)?;
+    let [du, dv] = dome.derivative(top.pair, [1., 0., 0.], &mut budget)?;
     println!("a step of 1 in x at the top is {du} in u and {dv} in v");
     let collapsed = dome
         .nurbs_singular(1e-9)?

@@ -2,10 +2,10 @@
 //!
 //! The work is done by a static library whose every function is proved to meet its contract. Each
 //! call tests its own input and answers, for all input, a value or a [`Refusal`]; nothing that is
-//! lent is written to, but for a budget and a row's answers.
+//! lent is written to, but for a budget and a row's answers and ends.
 //!
 //! ```
-//! use placing::{Refusal, Search, Surface};
+//! use placing::{End, Origin, Refusal, Search, Surface};
 //!
 //! // Degrees 1 and 1: the point at (u, v) is (u, v, 0).
 //! let square = Surface {
@@ -20,12 +20,18 @@
 //!
 //! // A unit of the budget is an evaluation of the surface.
 //! let mut budget = 100;
-//! assert_eq!(square.invert([0.25, 0.5, 0.75], &search, &mut budget), Ok([0.25, 0.5]));
+//! let placed = square.invert([0.25, 0.5, 0.75], &search, &mut budget)?;
+//! assert_eq!(placed.pair, [0.25, 0.5]);
 //! assert_eq!(budget, 8);
+//!
+//! // How the run that found the pair ended, and where it came from.
+//! assert_eq!((placed.end, placed.origin), (End::Unchanged, Origin::Start(1)));
+//! assert_eq!(placed.end.to_string(), "unchanged");
 //!
 //! // The same price is too much for what is left.
 //! assert_eq!(square.invert([0.25, 0.5, 0.75], &search, &mut budget), Err(Refusal::Units));
 //! assert_eq!(budget, 0);
+//! # Ok::<(), Refusal>(())
 //! ```
 //!
 //! Nothing is shared between calls: any number of threads may call at once, on one surface too. A
@@ -34,9 +40,11 @@
 //! The build links `libplacing.a` from the folder that the environment variable
 //! `PLACING_LIBRARY_DIR` names, an absolute path, and where it is not set from `target/staticlib`
 //! of the repository that this crate is a part of.
+mod end;
 pub mod raw;
 mod refusal;
 
+pub use end::{End, Origin};
 pub use refusal::{Refusal, RowRefusal};
 use std::slice;
 
@@ -48,6 +56,20 @@ pub type Point = [f64; 3];
 
 /// u and v.
 pub type Pair = [f64; 2];
+
+/// How a run of a row ended, as the library writes it: the numbers of an [`End`] and of an
+/// [`Origin`]. [`Placed::read`] reads it.
+pub type Ended = [u8; 2];
+
+/// A mark that was placed.
+#[derive(Clone, Copy, Debug, PartialEq)]
+pub struct Placed {
+    pub pair: Pair,
+    /// How the run that found the pair ended.
+    pub end: End,
+    /// Where that run came from.
+    pub origin: Origin,
+}
 
 /// A surface as it is lent. Nothing of it is checked before a call.
 #[derive(Clone, Copy, Debug)]
@@ -121,6 +143,17 @@ pub struct Frame {
     pub v: Point,
 }
 
+impl Placed {
+    /// A mark of a row, by its pair and its end. `None` where the library writes no such bytes.
+    pub fn read(pair: Pair, [end, origin]: Ended) -> Option<Self> {
+        Some(Self {
+            pair,
+            end: End::from_number(end)?,
+            origin: Origin::from_number(origin)?,
+        })
+    }
+}
+
 impl Surface<'_> {
     /// Point and first derivatives at u and v. [`Refusal::Evaluation`] outside the domain.
     pub fn evaluate(&self, [u, v]: Pair) -> Answer<Jet> {
@@ -130,11 +163,12 @@ impl Surface<'_> {
         answer(number, Jet { point, du, dv })
     }
 
-    /// The pair of the surface point nearest to the mark. Each evaluation takes a unit of the
-    /// budget, of which what is left is written back. u or v may be infinite after a shift by a
-    /// period.
-    pub fn invert(&self, mark: Point, search: &Search, budget: &mut u64) -> Answer<Pair> {
+    /// The pair of the surface point nearest to the mark, and how the run that found it ended. Each
+    /// evaluation takes a unit of the budget, of which what is left is written back. u or v may be
+    /// infinite after a shift by a period.
+    pub fn invert(&self, mark: Point, search: &Search, budget: &mut u64) -> Answer<Placed> {
         let mut pair = [0.; 2];
+        let mut ended = [0; 2];
         let [pu, pv] = &search.periods;
         let number = raw::invert(
             &self.lent(),
@@ -145,35 +179,62 @@ impl Surface<'_> {
             pv.numbers(),
             slice::from_mut(budget),
             &mut pair,
+            &mut ended,
         );
-        answer(number, pair)
+        answer(number, ())
+            .map(|()| Placed::read(pair, ended).expect("the library writes no other bytes"))
     }
 
-    /// The pairs of a row of marks, written to the front of `answers`. Each pair is the next mark's
-    /// hint, and one budget serves all. Where a mark is refused the pairs before it are written, and
-    /// all later ones keep their bits. A pair may be infinite as in [`Surface::invert`], and is then
-    /// no hint: the next mark is refused with [`Refusal::Argument`].
+    /// The pairs of a row of marks, written to the front of `answers`, and how the runs that found
+    /// them ended, to the front of `ends`. Each pair is the next mark's hint, and one budget serves
+    /// all. Where a mark is refused the pairs and ends before it are written, and all later ones keep
+    /// their bits. A pair may be infinite as in [`Surface::invert`], and is then no hint: the next
+    /// mark is refused with [`Refusal::Argument`].
+    ///
+    /// ```
+    /// # use placing::{End, Origin, Placed, RowRefusal, Search, Surface};
+    /// # let square = Surface {
+    /// #     degrees: [1, 1],
+    /// #     shape: [2, 2],
+    /// #     periodic: [false, false],
+    /// #     knots: [&[0., 0., 1., 1.], &[0., 0., 1., 1.]],
+    /// #     controls: &[0., 0., 0., 0., 1., 0., 1., 0., 0., 1., 1., 0.],
+    /// #     weights: &[1.; 4],
+    /// # };
+    /// let search = Search { tolerance: 1., ..Search::default() };
+    /// let marks = [[0.25, 0.5, 0.75], [0.5, 0.5, 0.75]];
+    /// let mut pairs = [[0.; 2]; 2];
+    /// let mut ends = [[255; 2]; 2]; // which read as no end until they are written
+    /// square.row(&marks, &search, &mut 1000, &mut pairs, &mut ends)?;
+    /// let second = Placed::read(pairs[1], ends[1]).unwrap();
+    /// assert_eq!(second.pair, [0.5, 0.5]);
+    /// assert_eq!((second.end, second.origin), (End::Unchanged, Origin::Hint));
+    /// # Ok::<(), RowRefusal>(())
+    /// ```
     pub fn row(
         &self,
         marks: &[Point],
         search: &Search,
         budget: &mut u64,
         answers: &mut [Pair],
+        ends: &mut [Ended],
     ) -> Result<(), RowRefusal> {
         let answers = answers.as_flattened_mut();
-        self.row_flat(marks.as_flattened(), search, budget, answers)
+        let ends = ends.as_flattened_mut();
+        self.row_flat(marks.as_flattened(), search, budget, answers, ends)
     }
 
-    /// As [`Surface::row`], with the marks' coordinates and the answers' numbers one after another:
-    /// three a mark, and room for two.
+    /// As [`Surface::row`], with the marks' coordinates, the answers' numbers and the ends' bytes one
+    /// after another: three a mark, and room for two and for two.
     pub fn row_flat(
         &self,
         marks: &[f64],
         search: &Search,
         budget: &mut u64,
         answers: &mut [f64],
+        ends: &mut [u8],
     ) -> Result<(), RowRefusal> {
-        let (number, index) = self.raw_row(marks, search, budget, answers);
+        let (number, index) = self.raw_row(marks, search, budget, answers, ends);
         answer(number, ()).map_err(|refusal| RowRefusal {
             refusal,
             mark: self.ended_at(search, refusal, index),
@@ -186,6 +247,7 @@ impl Surface<'_> {
         search: &Search,
         budget: &mut u64,
         answers: &mut [f64],
+        ends: &mut [u8],
     ) -> (u64, u64) {
         let mut index = 0;
         let [pu, pv] = &search.periods;
@@ -199,6 +261,7 @@ impl Surface<'_> {
             slice::from_mut(budget),
             slice::from_mut(&mut index),
             answers,
+            ends,
         );
         (number, index)
     }
@@ -209,7 +272,9 @@ impl Surface<'_> {
     fn ended_at(&self, search: &Search, refusal: Refusal, index: u64) -> Option<usize> {
         let by_a_mark = match refusal {
             Refusal::Units | Refusal::Evaluation => true,
-            Refusal::Argument => index > 0 || self.raw_row(&[], search, &mut 0, &mut []).0 == 0,
+            Refusal::Argument => {
+                index > 0 || self.raw_row(&[], search, &mut 0, &mut [], &mut []).0 == 0
+            }
             _ => false,
         };
         by_a_mark.then_some(index as usize)

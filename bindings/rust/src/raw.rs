@@ -1,15 +1,15 @@
 //! The library's own functions, argument for argument: each answers the number of its refusal
 //! or 0, and writes the rest of its answer to the slices lent for it. What lies past what a
 //! function writes keeps its bits. A refusal leaves all of them as they were, but for the
-//! budget, and in a row `index` and the pairs before the refused mark.
+//! budget, and in a row `index` and the pairs and ends before the refused mark.
 //!
 //! Every argument is tested, so all of them are safe. 99 is answered, before any other check and
 //! with nothing written, where `flags` is above 3, a hint has neither no number nor two, a period
 //! has more than one, or a slice is too short for what is to be written to it. A row whose
-//! answers don't fit is refused with 11 instead.
+//! answers or ends don't fit is refused with 11 instead.
 
 /// Bytes that are room enough for every job's printout.
-pub const PRINTOUT_ROOM: usize = 69_632;
+pub const PRINTOUT_ROOM: usize = 72_704;
 
 /// A surface, as it is lent.
 #[derive(Clone, Copy, Debug)]
@@ -75,6 +75,8 @@ unsafe extern "C" {
         budget_count: usize,
         pair: *mut f64,
         pair_count: usize,
+        ended: *mut u8,
+        ended_count: usize,
     ) -> u64;
     fn placing_row(
         degree_u: usize,
@@ -105,6 +107,8 @@ unsafe extern "C" {
         index_count: usize,
         answers: *mut f64,
         answers_count: usize,
+        ends: *mut u8,
+        ends_count: usize,
     ) -> u64;
     fn placing_derivative(
         degree_u: usize,
@@ -210,7 +214,8 @@ pub fn evaluate(s: &Lent, u: f64, v: f64, jet: &mut [f64]) -> u64 {
 }
 
 /// The pair of the surface point nearest to a mark: two numbers to `pair`, which may be infinite
-/// after a shift by a period. `budget[0]` is the budget, and afterwards what is left of it.
+/// after a shift by a period, and two bytes to `ended`, the numbers of an [`End`](crate::End) and of
+/// an [`Origin`](crate::Origin). `budget[0]` is the budget, and afterwards what is left of it.
 #[allow(clippy::too_many_arguments)]
 pub fn invert(
     s: &Lent,
@@ -221,6 +226,7 @@ pub fn invert(
     period_v: &[f64],
     budget: &mut [u64],
     pair: &mut [f64],
+    ended: &mut [u8],
 ) -> u64 {
     let [x, y, z] = mark;
     on!(
@@ -240,12 +246,14 @@ pub fn invert(
         budget.len(),
         pair.as_mut_ptr(),
         pair.len(),
+        ended.as_mut_ptr(),
+        ended.len(),
     )
 }
 
-/// A row of marks, three coordinates each: two numbers a mark to `answers`. Each answer is the
-/// next mark's hint. `index[0]` is afterwards the index of the mark that was refused, and 0 where
-/// none was.
+/// A row of marks, three coordinates each: two numbers a mark to `answers`, and two bytes a mark to
+/// `ends`, as [`invert`] writes them. Each answer is the next mark's hint. `index[0]` is afterwards
+/// the index of the mark that was refused, and 0 where none was.
 #[allow(clippy::too_many_arguments)]
 pub fn row(
     s: &Lent,
@@ -257,6 +265,7 @@ pub fn row(
     budget: &mut [u64],
     index: &mut [u64],
     answers: &mut [f64],
+    ends: &mut [u8],
 ) -> u64 {
     on!(
         placing_row,
@@ -276,6 +285,8 @@ pub fn row(
         index.len(),
         answers.as_mut_ptr(),
         answers.len(),
+        ends.as_mut_ptr(),
+        ends.len(),
     )
 }
 

@@ -39,7 +39,8 @@ refusals! {
     Evaluation = 9: "an evaluation refused: the parameter lies outside, a number is not finite, or the \
         weight sum is not above 0",
     Singular = 10: "the two derivatives of the surface there don't span a plane",
-    Row = 11: "the marks are not in threes, or the answers have less room than two numbers a mark",
+    Row = 11: "the marks are not in threes, or there are under two numbers a mark for the answers, or \
+        under two bytes a mark for the ends",
     Malformed = 12: "the job file is malformed",
     Misfit = 99: "flags are above 3, a hint or period has another count of numbers, or there is less \
         room than the answer needs",

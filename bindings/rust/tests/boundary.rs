@@ -21,19 +21,19 @@ fn flags_above_three() {
     for flags in [4, 5, u64::MAX] {
         let s = &square(flags);
         let (mut budget, mut index, mut collapsed) = ([9], [9], [9; 4]);
-        let mut out = [7.; 20];
-        let b = &mut budget;
+        let (mut out, mut ended) = ([7.; 20], [7; 2]);
+        let (b, e) = (&mut budget, &mut ended);
         assert_eq!(raw::evaluate(s, 0., 0., &mut out), 99);
-        assert_eq!(raw::invert(s, MARK, &[], 0.5, &[], &[], b, &mut out), 99);
+        assert_eq!(raw::invert(s, MARK, &[], 0.5, &[], &[], b, &mut out, e), 99);
         assert_eq!(
-            raw::row(s, &MARK, &[], 0.5, &[], &[], b, &mut index, &mut out),
+            raw::row(s, &MARK, &[], 0.5, &[], &[], b, &mut index, &mut out, e),
             99
         );
         assert_eq!(raw::derivative(s, 0., 0., MARK, b, &mut out), 99);
         assert_eq!(raw::nurbs_singular(s, 0.5, &mut collapsed, &mut out), 99);
         assert_eq!(
-            (budget, index, collapsed, out),
-            ([9], [9], [9; 4], [7.; 20])
+            (budget, index, collapsed, out, ended),
+            ([9], [9], [9; 4], [7.; 20], [7; 2])
         );
     }
 }
@@ -51,24 +51,14 @@ fn hints_and_periods_of_other_counts() {
         [&[], &[], &three],
     ];
     for [hint, pu, pv] in cases {
-        let (mut budget, mut index, mut out) = ([9], [9], [7.; 2]);
+        let (mut budget, mut index, mut out, mut ended) = ([9], [9], [7.; 2], [7; 2]);
+        let (b, e) = (&mut budget, &mut ended);
+        assert_eq!(raw::invert(s, MARK, hint, 0.5, pu, pv, b, &mut out, e), 99);
         assert_eq!(
-            raw::invert(s, MARK, hint, 0.5, pu, pv, &mut budget, &mut out),
+            raw::row(s, &MARK, hint, 0.5, pu, pv, b, &mut index, &mut out, e),
             99
         );
-        let number = raw::row(
-            s,
-            &MARK,
-            hint,
-            0.5,
-            pu,
-            pv,
-            &mut budget,
-            &mut index,
-            &mut out,
-        );
-        assert_eq!(number, 99);
-        assert_eq!((budget, index, out), ([9], [9], [7.; 2]));
+        assert_eq!((budget, index, out, ended), ([9], [9], [7.; 2], [7; 2]));
     }
 }
 
@@ -77,22 +67,20 @@ fn slices_too_short() {
     let s = &square(0);
     let frame = [[0.; 3], [1., 0., 0.], [0., 1., 0.]];
     let (mut budget, mut out) = ([9], [7.; 19]);
-    let mut index = [9];
+    let (mut index, mut ended) = ([9], [7; 2]);
     let none = &mut [];
     assert_eq!(raw::evaluate(s, 0., 0., &mut out[..8]), 99);
-    assert_eq!(raw::invert(s, MARK, &[], 0.5, &[], &[], none, &mut out), 99);
-    assert_eq!(
-        raw::invert(s, MARK, &[], 0.5, &[], &[], &mut budget, &mut out[..1]),
-        99
-    );
-    assert_eq!(
-        raw::row(s, &MARK, &[], 0.5, &[], &[], none, &mut index, &mut out),
-        99
-    );
-    assert_eq!(
-        raw::row(s, &MARK, &[], 0.5, &[], &[], &mut budget, none, &mut out),
-        99
-    );
+    let invert = |budget: &mut [u64], pair: &mut [f64], ended: &mut [u8]| {
+        raw::invert(s, MARK, &[], 0.5, &[], &[], budget, pair, ended)
+    };
+    assert_eq!(invert(none, &mut out, &mut ended), 99);
+    assert_eq!(invert(&mut budget, &mut out[..1], &mut ended), 99);
+    assert_eq!(invert(&mut budget, &mut out, &mut ended[..1]), 99);
+    let row = |budget: &mut [u64], index: &mut [u64], answers: &mut [f64], ends: &mut [u8]| {
+        raw::row(s, &MARK, &[], 0.5, &[], &[], budget, index, answers, ends)
+    };
+    assert_eq!(row(none, &mut index, &mut out, &mut ended), 99);
+    assert_eq!(row(&mut budget, none, &mut out, &mut ended), 99);
     assert_eq!(raw::derivative(s, 0., 0., MARK, none, &mut out), 99);
     assert_eq!(
         raw::derivative(s, 0., 0., MARK, &mut budget, &mut out[..1]),
@@ -102,20 +90,21 @@ fn slices_too_short() {
     assert_eq!(raw::plane(frame, MARK, &mut budget, &mut out[..1]), 99);
     assert_eq!(raw::nurbs_singular(s, 0.5, &mut [9; 4], &mut out), 99);
     assert_eq!(raw::nurbs_singular(s, 0.5, &mut [9; 3], &mut [7.; 20]), 99);
-    assert_eq!((budget, index, out), ([9], [9], [7.; 19]));
-    // A row's answers have a number of their own.
-    let number = raw::row(
-        s,
-        &MARK,
-        &[],
-        0.5,
-        &[],
-        &[],
-        &mut budget,
-        &mut index,
-        &mut out[..1],
-    );
-    assert_eq!((number, budget, index, out), (11, [9], [0], [7.; 19]));
+    assert_eq!((budget, index, out, ended), ([9], [9], [7.; 19], [7; 2]));
+    // A row's answers and ends have a number of their own.
+    assert_eq!(row(&mut budget, &mut index, &mut out[..1], &mut ended), 11);
+    assert_eq!(index, [0]);
+    index = [9];
+    assert_eq!(row(&mut budget, &mut index, &mut out, &mut ended[..1]), 11);
+    assert_eq!((budget, index, out, ended), ([9], [0], [7.; 19], [7; 2]));
+}
+
+#[test]
+fn a_refused_inversion_leaves_pair_and_end() {
+    let (mut budget, mut pair, mut ended) = ([91], [7.; 2], [7; 2]);
+    let (s, b, e) = (&square(0), &mut budget, &mut ended);
+    assert_eq!(raw::invert(s, MARK, &[], 0.5, &[], &[], b, &mut pair, e), 8);
+    assert_eq!((budget, pair, ended), ([0], [7.; 2], [7; 2]));
 }
 
 #[test]
@@ -128,12 +117,11 @@ fn longer_slices_keep_their_bits() {
     assert_eq!(jet[..9], [0.25, 0.5, 0., 1., 0., 0., 0., 1., 0.]);
     assert!(kept(&jet[9..]));
 
-    let (mut budget, mut pair) = ([100, 5], [odd; 4]);
-    assert_eq!(
-        raw::invert(s, MARK, &[], 0.5, &[], &[], &mut budget, &mut pair),
-        0
-    );
+    let (mut budget, mut pair, mut ended) = ([100, 5], [odd; 4], [7; 4]);
+    let (b, e) = (&mut budget, &mut ended);
+    assert_eq!(raw::invert(s, MARK, &[], 0.5, &[], &[], b, &mut pair, e), 0);
     assert_eq!((budget, &pair[..2]), ([8, 5], &[0.25, 0.5][..]));
+    assert_eq!(ended, [0, 1, 7, 7]);
     assert!(kept(&pair[2..]));
 
     let mut pair = [odd; 4];
@@ -144,7 +132,7 @@ fn longer_slices_keep_their_bits() {
     assert_eq!((budget, &pair[..2]), ([7, 5], &[3., 5.][..]));
     assert!(kept(&pair[2..]));
 
-    let (mut index, mut answers) = ([9, 9], [odd; 4]);
+    let (mut index, mut answers, mut ends) = ([9, 9], [odd; 4], [7; 4]);
     assert_eq!(
         raw::row(
             s,
@@ -155,7 +143,8 @@ fn longer_slices_keep_their_bits() {
             &[],
             &mut budget,
             &mut index,
-            &mut answers
+            &mut answers,
+            &mut ends,
         ),
         0
     );
@@ -163,6 +152,7 @@ fn longer_slices_keep_their_bits() {
         (budget, index, &answers[..2]),
         ([6, 5], [0, 9], &[0.25, 0.5][..])
     );
+    assert_eq!(ends, [0, 0, 7, 7]);
     assert!(kept(&answers[2..]));
 
     let frame = [[0.; 3], [1., 0., 0.], [0., 1., 0.]];

@@ -1,5 +1,8 @@
 //! Every function, its refusals, and what it leaves of what is lent.
-use placing::{Edge, Frame, Hint, Jet, Period, Refusal, RowRefusal, Search, Surface, job, plane};
+use placing::{
+    Edge, End, Frame, Hint, Jet, Origin, Period, Placed, Refusal, RowRefusal, Search, Surface, job,
+    plane,
+};
 use std::thread;
 
 const KNOTS: [f64; 4] = [0., 0., 1., 1.];
@@ -25,10 +28,33 @@ fn dot() -> Surface<'static> {
     }
 }
 
+/// Flat but for its middle, which is drawn up.
+fn dome() -> Surface<'static> {
+    Surface {
+        degrees: [2, 2],
+        shape: [3, 3],
+        periodic: [false; 2],
+        knots: [&[0., 0., 0., 1., 1., 1.]; 2],
+        controls: &[
+            0., 0., 0., 0., 1., 0., 0., 2., 0., 1., 0., 0., 1., 1., 2., 1., 2., 0., 2., 0., 0., 2.,
+            1., 0., 2., 2., 0.,
+        ],
+        weights: &[1.; 9],
+    }
+}
+
 fn free(tolerance: f64) -> Search {
     Search {
         tolerance,
         ..Search::default()
+    }
+}
+
+fn settled(pair: [f64; 2], origin: Origin) -> Placed {
+    Placed {
+        pair,
+        end: End::Unchanged,
+        origin,
     }
 }
 
@@ -113,31 +139,32 @@ fn refuses_surfaces() {
     ];
     for (surface, refusal) in cases {
         let mut budget = 5;
-        let mut pairs = [[7.; 2]];
+        let (mut pairs, mut ends) = ([[7.; 2]], [[7; 2]]);
         assert_eq!(surface.evaluate([0.; 2]), Err(refusal));
         assert_eq!(surface.invert(MARK, &free(0.5), &mut budget), Err(refusal));
         assert_eq!(surface.derivative([0.; 2], MARK, &mut budget), Err(refusal));
         assert_eq!(surface.nurbs_singular(0.5), Err(refusal));
         let marks: [&[_]; 3] = [&[], &[MARK], &[[f64::NAN; 3]]];
         for marks in marks {
-            let ended = surface.row(marks, &free(0.5), &mut budget, &mut pairs);
+            let ended = surface.row(marks, &free(0.5), &mut budget, &mut pairs, &mut ends);
             assert_eq!(ended, refused(refusal, None));
         }
-        assert_eq!((budget, pairs), (5, [[7.; 2]]));
+        assert_eq!((budget, pairs, ends), (5, [[7.; 2]], [[7; 2]]));
     }
 }
 
 #[test]
 fn inverts() {
     let cases = [
-        (free(0.5), 92, [0.25, 0.5]),
-        (hinted(0.25, 0.5, 0.75), 1, [0.25, 0.5]),
-        (hinted(0.25, 0.5, 0.5), 94, [0.25, 0.5]),
-        (hinted(0.5, 0.5, 0.75), 2, [0.25, 0.5]),
+        (free(0.5), 92, Origin::Start(1)),
+        (hinted(0.25, 0.5, 0.75), 1, Origin::Hint),
+        (hinted(0.25, 0.5, 0.5), 94, Origin::Hint),
+        (hinted(0.5, 0.5, 0.75), 2, Origin::Hint),
     ];
-    for (search, price, pair) in cases {
+    for (search, price, origin) in cases {
+        let placed = settled([0.25, 0.5], origin);
         let mut budget = price + 3;
-        assert_eq!(square().invert(MARK, &search, &mut budget), Ok(pair));
+        assert_eq!(square().invert(MARK, &search, &mut budget), Ok(placed));
         assert_eq!(budget, 3);
         let mut budget = price - 1;
         assert_eq!(
@@ -146,9 +173,32 @@ fn inverts() {
         );
         assert_eq!(budget, 0);
     }
+}
+
+#[test]
+fn tells_how_a_run_ended() {
+    let near = |u, v| hinted(u, v, 9.);
+    let cases = [
+        (dome(), [0., 0., -4.], near(0., 0.), End::Unchanged, 0),
+        (dome(), [0., 0., 0.75], near(0.25, 0.5), End::Further, 0),
+        (dome(), [0., 0.75, 0.5], near(0., 0.), End::SmallStep, 0),
+        (dot(), [3., 4., 0.], near(0., 0.), End::Singular, 0),
+        (dome(), [0., 0., 0.5], near(0.25, 0.5), End::Rounds, 0),
+        (dot(), [3., 4., 0.], free(0.), End::Singular, 1),
+        (dome(), [0.25, 0., 1.], free(0.), End::Further, 4),
+        (dome(), [0., 0.25, 0.5], free(0.), End::Rounds, 2),
+    ];
+    for (surface, mark, search, end, origin) in cases {
+        let placed = surface.invert(mark, &search, &mut 1000).unwrap();
+        assert_eq!((placed.end, placed.origin.number()), (end, origin));
+    }
+}
+
+#[test]
+fn keeps_the_nudge_of_a_surface_without_directions() {
     let mut budget = 83;
-    let pair = dot().invert([3., 4., 0.], &free(0.), &mut budget);
-    assert_eq!((pair, budget), (Ok([0.0000005; 2]), 0));
+    let placed = dot().invert([3., 4., 0.], &free(0.), &mut budget).unwrap();
+    assert_eq!((placed.pair, budget), ([0.0000005; 2], 0));
 }
 
 #[test]
@@ -158,7 +208,7 @@ fn shifts_by_each_axis_of_its_own() {
             periods,
             ..hinted(5.25, -2.5, 0.75)
         };
-        square().invert(MARK, &search, &mut 1000).unwrap()
+        square().invert(MARK, &search, &mut 1000).unwrap().pair
     };
     assert_eq!(turned([Period::Every(1.), Period::Free]), [5.25, 0.5]);
     assert_eq!(turned([Period::Free, Period::Every(1.)]), [0.25, -2.5]);
@@ -202,37 +252,77 @@ fn refuses_searches() {
 fn places_a_row() {
     let marks = [MARK, MARK];
     let mut budget = 1000;
-    let mut pairs = [[7.; 2]; 3];
+    let (mut pairs, mut ends) = ([[7.; 2]; 3], [[7; 2]; 3]);
     assert_eq!(
-        square().row(&marks, &free(0.5), &mut budget, &mut pairs),
+        square().row(&marks, &free(0.5), &mut budget, &mut pairs, &mut ends),
         Ok(())
     );
     assert_eq!((budget, pairs), (814, [[0.25, 0.5], [0.25, 0.5], [7.; 2]]));
+    assert_eq!(ends, [[0, 1], [0, 0], [7; 2]]);
 
     let mut budget = 100;
-    let mut pairs = [[7.; 2]; 2];
-    let ended = square().row(&marks, &free(0.5), &mut budget, &mut pairs);
+    let (mut pairs, mut ends) = ([[7.; 2]; 2], [[7; 2]; 2]);
+    let ended = square().row(&marks, &free(0.5), &mut budget, &mut pairs, &mut ends);
     assert_eq!(ended, refused(Refusal::Units, Some(1)));
     assert_eq!((budget, pairs), (0, [[0.25, 0.5], [7.; 2]]));
+    assert_eq!(ends, [[0, 1], [7; 2]]);
 
-    let ended = square().row(&marks, &free(0.5), &mut budget, &mut pairs[..1]);
-    assert_eq!(ended, refused(Refusal::Row, None));
-    assert_eq!(square().row(&[], &free(0.5), &mut budget, &mut []), Ok(()));
+    assert_eq!(
+        square().row(&[], &free(0.5), &mut budget, &mut [], &mut []),
+        Ok(())
+    );
     assert_eq!(budget, 0);
+}
+
+#[test]
+fn refuses_a_row_without_room() {
+    let marks = [MARK, MARK];
+    for (answers, ends) in [(1, 2), (2, 1), (0, 0)] {
+        let mut budget = 1000;
+        let (mut pairs, mut bytes) = ([[7.; 2]; 2], [[7; 2]; 2]);
+        let ended = square().row(
+            &marks,
+            &free(0.5),
+            &mut budget,
+            &mut pairs[..answers],
+            &mut bytes[..ends],
+        );
+        assert_eq!(ended, refused(Refusal::Row, None));
+        assert_eq!((budget, pairs, bytes), (1000, [[7.; 2]; 2], [[7; 2]; 2]));
+    }
+}
+
+#[test]
+fn reads_what_a_row_writes() {
+    let pair = [0.25, 0.5];
+    assert_eq!(
+        Placed::read(pair, [0, 1]),
+        Some(settled(pair, Origin::Start(1)))
+    );
+    for ended in [[5, 0], [0, 7], [255; 2]] {
+        assert_eq!(Placed::read(pair, ended), None);
+    }
 }
 
 #[test]
 fn places_a_flat_row() {
     let marks = [MARK, MARK].concat();
     let mut budget = 1000;
-    let mut numbers = [7.; 5];
-    let ended = square().row_flat(&marks, &free(0.5), &mut budget, &mut numbers);
+    let (mut numbers, mut bytes) = ([7.; 5], [7; 5]);
+    let ended = square().row_flat(&marks, &free(0.5), &mut budget, &mut numbers, &mut bytes);
     assert_eq!(ended, Ok(()));
     assert_eq!((budget, numbers), (814, [0.25, 0.5, 0.25, 0.5, 7.]));
-    let ended = square().row_flat(&marks[..5], &free(0.5), &mut budget, &mut numbers);
-    assert_eq!(ended, refused(Refusal::Row, None));
-    let ended = square().row_flat(&marks, &free(0.5), &mut budget, &mut numbers[..3]);
-    assert_eq!(ended, refused(Refusal::Row, None));
+    assert_eq!(bytes, [0, 1, 0, 0, 7]);
+    for (coordinates, answers, ends) in [(5, 5, 5), (6, 3, 5), (6, 5, 3)] {
+        let ended = square().row_flat(
+            &marks[..coordinates],
+            &free(0.5),
+            &mut budget,
+            &mut numbers[..answers],
+            &mut bytes[..ends],
+        );
+        assert_eq!(ended, refused(Refusal::Row, None));
+    }
 }
 
 #[test]
@@ -251,7 +341,13 @@ fn blames_a_mark_only_for_its_own_fault() {
     ];
     let ended = |marks: &[_], search| {
         let mut budget = 1000;
-        square().row(marks, search, &mut budget, &mut [[0.; 2]; 2])
+        square().row(
+            marks,
+            search,
+            &mut budget,
+            &mut [[0.; 2]; 2],
+            &mut [[0; 2]; 2],
+        )
     };
     // The search is tested first: its fault is no mark's, whatever the marks are.
     for search in &unsound {
@@ -270,7 +366,7 @@ fn blames_a_mark_only_for_its_own_fault() {
         refused(Refusal::Argument, Some(1))
     );
     assert_eq!(
-        square().row(&[MARK], search, &mut 0, &mut [[0.; 2]]),
+        square().row(&[MARK], search, &mut 0, &mut [[0.; 2]], &mut [[0; 2]]),
         refused(Refusal::Units, Some(0))
     );
 }
@@ -282,11 +378,14 @@ fn a_pair_may_be_infinite_and_is_then_no_hint() {
         ..hinted(1e300, 0.5, 1.)
     };
     let far = [f64::INFINITY, 0.5];
-    assert_eq!(square().invert(MARK, &search, &mut 1000), Ok(far));
-    let mut pairs = [[7.; 2]; 2];
-    let ended = square().row(&[MARK, MARK], &search, &mut 1000, &mut pairs);
+    assert_eq!(
+        square().invert(MARK, &search, &mut 1000),
+        Ok(settled(far, Origin::Hint))
+    );
+    let (mut pairs, mut ends) = ([[7.; 2]; 2], [[7; 2]; 2]);
+    let ended = square().row(&[MARK, MARK], &search, &mut 1000, &mut pairs, &mut ends);
     assert_eq!(ended, refused(Refusal::Argument, Some(1)));
-    assert_eq!(pairs, [far, [7.; 2]]);
+    assert_eq!((pairs, ends), ([far, [7.; 2]], [[0, 0], [7; 2]]));
 }
 
 #[test]
@@ -407,8 +506,8 @@ fn prints_a_job() {
         file.extend(MARK.map(f64::to_le_bytes).as_flattened());
     }
     let printout = "marks 2\n\
-                    3fd0000000000000 3fe0000000000000 908\n\
-                    3fd0000000000000 3fe0000000000000 814\n";
+                    3fd0000000000000 3fe0000000000000 908 0\n\
+                    3fd0000000000000 3fe0000000000000 814 0\n";
     assert_eq!(job(&file), printout.as_bytes());
     for malformed in [&[], &file[..file.len() - 1], &[0; 32_769]] {
         assert_eq!(job(malformed), b"refused 12 at 0\n");
@@ -429,4 +528,26 @@ fn refusals_have_words() {
     assert_eq!((Refusal::Row.number(), Refusal::Misfit.number()), (11, 99));
     assert_eq!(Refusal::from_number(8), Some(Refusal::Units));
     assert_eq!(Refusal::from_number(13), None);
+}
+
+#[test]
+fn ends_and_origins_have_numbers_and_words() {
+    let ends: Vec<End> = (0..=u8::MAX).filter_map(End::from_number).collect();
+    let words = [
+        "unchanged",
+        "next point further",
+        "small step",
+        "second singular point",
+        "32 rounds",
+    ];
+    assert_eq!(ends.len(), words.len());
+    for (number, (end, words)) in (0..).zip(ends.into_iter().zip(words)) {
+        assert_eq!((end.number(), end.to_string()), (number, words.to_string()));
+    }
+    for number in 0..=6 {
+        assert_eq!(Origin::from_number(number).unwrap().number(), number);
+    }
+    assert_eq!(Origin::from_number(7), None);
+    assert_eq!(Origin::Hint.to_string(), "the hint");
+    assert_eq!(Origin::Start(6).to_string(), "start 6");
 }
