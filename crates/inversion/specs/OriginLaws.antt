@@ -26,7 +26,7 @@ use Rattle.inversion.specs.declared.Choice.{Choice}
 use Rattle.inversion.specs.declared.Best.{Best}
 use Rattle.inversion.specs.Inversion.{ofHint, numbered, led, plainSteps}
 use Rattle.inversion.specs.Nearest.{All, Nearest, here, there, nearest-member}
-use Rattle.inversion.specs.InversionLaws.{far, Ran, none, next, Leads, nothing, from, Chosen, Paired, taken, among, plainSteps-paired, nearest-end}
+use Rattle.inversion.specs.InversionLaws.{far, Ran, none, next, Leads, nothing, from, Paired, taken, among, plainSteps-paired, nearest-end}
 
 module _ (d : Domain) (mark : Vector3) (eval : Float → Float → Evaluated) where
   -- a run from (u, v) that has an end ends further away than c

@@ -8,7 +8,7 @@ use lib.ListN.{length, length-append}
 use lib.Ieee.{Float, lt, eq}
 use Rattle.float64.specs.Operators.{_⊕_}
 use Rattle.vector3.specs.declared.Vector3.{Vector3}
-use Rattle.price.specs.Price.{Priced, refused, answered}
+use Rattle.price.specs.Price.{Priced, answered}
 use Rattle.price.specs.PriceLaws.{Answers}
 use Rattle.price.specs.Evaluations.{Pair}
 use Rattle.patch.specs.declared.Jet.{Jet}

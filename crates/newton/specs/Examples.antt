@@ -1,16 +1,17 @@
--- Two runs, computed: on the unit square of a plane, and on one that is all one point.
+-- Runs, computed: on the unit square of a plane, on one that is all one point, and on a parabola. They end unchanged, by a small step, at a second singular point, and at a further point.
 use mathlib.Core.Path.{_≡_, refl}
 use mathlib.Core.Bool.{true, false}
 use mathlib.Core.List.{[], _∷_}
-use lib.IntN.{pos}
-use lib.Ieee.{Float, fin}
+use lib.IntN.{pos, negsuc}
+use lib.Ieee.{Float, fin, neg}
 use Rattle.float64.specs.Operators.{_⊕_, _⊗_, 0·, ½·, 1·, 1e-6}
+use Rattle.float64.specs.Functions.{root}
 use Rattle.vector3.specs.declared.Vector3.{Vector3}
 use Rattle.patch.specs.declared.Evaluated.{Evaluated}
 use Rattle.patch.specs.declared.Evaluated.the-variants.{Found}
 use Rattle.price.specs.Price.{answered}
 use Rattle.domain.specs.declared.Domain.{Domain}
-use Rattle.newton.specs.declared.Ending.the-variants.{Unchanged, SecondSingular}
+use Rattle.newton.specs.declared.Ending.the-variants.{Unchanged, Further, SmallStep, SecondSingular}
 use Rattle.newton.specs.Run.{run, nudges}
 use Rattle.newton.specs.Visits.{visits}
 use Rattle.newton.specs.Compute.{compute}
@@ -38,6 +39,15 @@ steps : run unit (record { x = ¼·; y = ½·; z = ¾· }) square ½· ½· ≡ 
 unfolding compute unit at square ¼· ¾·
 steps = refl
 
+-- 2^-53
+tiny : Float
+tiny = fin false 1 (negsuc 52)
+
+-- one step, of less than 1e-15 of the domain
+halts : run unit (at (½· ⊕ tiny) ½·) square ½· ½· ≡ answered (record { at = record { u = ½· ⊕ tiny; v = ½·; distance = 0· }; ending = SmallStep }) 2
+unfolding compute unit at square tiny
+halts = refl
+
 visited : visits unit (record { x = ¼·; y = ½·; z = ¾· }) square ½· ½· ≡ (½·, ½·) ∷ (¼·, ½·) ∷ []
 unfolding compute unit at square ¼· ¾·
 visited = refl
@@ -50,6 +60,21 @@ mark = record { x = fin false 3 (pos 0); y = fin false 1 (pos 2); z = 0· }
 stops : run unit mark dot 0· 0· ≡ answered (record { at = record { u = 1e-6 ⊗ ½·; v = 1e-6 ⊗ ½·; distance = fin false 5 (pos 0) }; ending = SecondSingular }) 2
 unfolding compute unit at dot mark
 stops = refl
+
+-- the surface (u, v, u * u) over -1 to 1 and 0 to 1: the step from (1/8, 0) leads too far
+valley : Domain
+valley = record { u = record { low = neg 1·; high = 1·; periodic = false }; v = record { low = 0·; high = 1·; periodic = false } }
+
+parabola : Float → Float → Evaluated
+parabola u v = Found (record { point = record { x = u; y = v; z = u ⊗ u }; u = record { x = 1·; y = 0·; z = u ⊕ u }; v = at 0· 1· })
+
+⅛· : Float
+⅛· = fin false 1 (negsuc 2)
+
+-- √(4289 / 4096), from the mark (0, 0, -1)
+returns : run valley (record { x = 0·; y = 0·; z = neg 1· }) parabola ⅛· 0· ≡ answered (record { at = record { u = ⅛·; v = 0·; distance = root (fin false 4289 (negsuc 11)) }; ending = Further }) 2
+unfolding compute at valley parabola ⅛·
+returns = refl
 
 nudged : nudges unit mark dot 0· 0· ≡ true
 unfolding compute unit at dot mark

@@ -192,7 +192,7 @@ module _ (d : Domain) (mark : Vector3) (eval : Float → Float → Evaluated) wh
       by-run u v none first = by (eval (clampInto (d .u) u) (clampInto (d .v) v)) refl
         where
           by : (r : Evaluated) → eval (clampInto (d .u) u) (clampInto (d .v) v) ≡ r → Q (started d mark eval (clampInto (d .u) u) (clampInto (d .v) v) r)
-          by Eval.Refused p = none 1
+          by Eval.Refused p = none _
           by (Eval.Found j) p = by-rounds 32 1 _ (first j p)
 
   -- ---- how many evaluations
