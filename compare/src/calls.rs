@@ -183,8 +183,15 @@ fn place_row(r: &mut Random, case: &Row) -> Compared {
         search,
         ..
     } = case;
-    let (mut answers, mut runs) = (case.answers.clone(), case.ends.clone());
-    let ended = row::row(surface, marks, search, case.budget, &mut answers, &mut runs);
+    let (mut answers, mut expected_ends) = (case.answers.clone(), case.ends.clone());
+    let ended = row::row(
+        surface,
+        marks,
+        search,
+        case.budget,
+        &mut answers,
+        &mut expected_ends,
+    );
     let (number, at) = match ended.refused {
         None => (0, 0),
         Some((refusal, at)) => (refusal.number(), at as u64),
@@ -217,7 +224,7 @@ fn place_row(r: &mut Random, case: &Row) -> Compared {
     finish(
         expected,
         words(number, &whole, &answers, 0),
-        watched.same(surface, &lent_too) && ends == runs,
+        watched.same(surface, &lent_too) && ends == expected_ends,
     )
 }
 

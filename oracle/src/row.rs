@@ -28,9 +28,9 @@ pub fn row(
     }
     let mut buffers = answers.chunks_exact_mut(2).zip(ends.chunks_exact_mut(2));
     walk(surface, marks, search, budget, |placed, _| {
-        let (pair, run) = buffers.next().expect("two numbers and two bytes a mark");
+        let (pair, end) = buffers.next().expect("two numbers and two bytes a mark");
         pair.copy_from_slice(&placed.pair);
-        run.copy_from_slice(&[placed.end, placed.origin]);
+        end.copy_from_slice(&[placed.end, placed.origin]);
     })
 }
 

@@ -4,10 +4,10 @@ use std::fmt;
 /// The words of each are also those of `placing_end_text` in placing.h.
 #[derive(Clone, Copy, Debug, PartialEq, Eq)]
 pub enum End {
-    /// The next step leads to the same pair: the run has settled.
+    /// The next step leads to the same pair: the run has come to rest.
     Unchanged = 0,
     /// The next step's point lies strictly further from the mark, and the run kept its pair. Whether
-    /// it had settled, or the step was too long, this does not tell.
+    /// only rounding moved it, or the step was too long, this does not tell.
     Further = 1,
     /// The last move was at most 1e-15 of the wider knot domain.
     SmallStep = 2,

@@ -2,9 +2,9 @@
 use mathlib.Core.Path.{_≡_, refl, ap}
 use mathlib.Core.Bool.{true, false}
 use mathlib.Core.List.{List, [], _∷_, _++_, List·Memᴰ·not-nil}
-use Prim.Native.Nat.{ℕ, suc, _+_}
+use Prim.Native.Nat.{ℕ, suc, _+_, _≤_}
 use native.Mathlib.Omega.{arith}
-use lib.ListN.{length}
+use lib.ListN.{length, length-append}
 use lib.Ieee.{Float, lt, isNan}
 use Rattle.vector3.specs.declared.Vector3.{Vector3}
 use Rattle.price.specs.Price.{answered}
@@ -33,11 +33,19 @@ module _ (d : Domain) (mark : Vector3) (eval : Float → Float → Evaluated) wh
   abbrev pub Beyond : Choice → Float → Float → Type 0
   Beyond c u v = (a : End) (n : ℕ) → run d mark eval u v ≡ answered a n → lt (c .end .at .distance) (a .at .distance) ≡ true
 
-  -- 0: the end is that of the hint's run. A start's place, from 1 on: the end is that of the run from it, and the hint's run and those from the starts before it end further away.
-  pub data From (hint : Hint) (starts : List Start) (c : Choice) : Type 0 where
-    the-hint : (u v : Float) (n : ℕ) → hint ≡ Hint.At u v → run d mark eval u v ≡ answered (c .end) n → c .origin ≡ 0 → From hint starts c
-    the-start : (before : List Start) (s : Start) (after : List Start) (n : ℕ) → starts ≡ before ++ (s ∷ after) → run d mark eval (s .u) (s .v) ≡ answered (c .end) n → c .origin ≡ 1 + length before
-        → ((u v : Float) → hint ≡ Hint.At u v → Beyond c u v) → All (λ b. Beyond c (b .u) (b .v)) before → From hint starts c
+  -- the pair from which the run of a choice started. 0: the hint. A start's place, from 1 on: that start, and the hint's run and those from the starts before it end further away.
+  pub data Origin (hint : Hint) (starts : List Start) (c : Choice) (u v : Float) : Type 0 where
+    the-hint : hint ≡ Hint.At u v → c .origin ≡ 0 → Origin hint starts c u v
+    the-start : (before : List Start) (s : Start) (after : List Start) → starts ≡ before ++ (s ∷ after) → u ≡ s .u → v ≡ s .v → c .origin ≡ 1 + length before
+        → ((a b : Float) → hint ≡ Hint.At a b → Beyond c a b) → All (λ b. Beyond c (b .u) (b .v)) before → Origin hint starts c u v
+
+  -- and its end is that of the run from there
+  pub record From (hint : Hint) (starts : List Start) (c : Choice) : Type 0 where
+    pub u : Float
+    pub v : Float
+    pub origin : Origin hint starts c u v
+    pub made : ℕ
+    pub ran : run d mark eval u v ≡ answered (c .end) made
 
   same-end : (c : Choice) (u v : Float) (e : End) (k : ℕ) → run d mark eval u v ≡ answered e k → lt (c .end .at .distance) (e .at .distance) ≡ true → Beyond c u v
   same-end c u v e k p l a n q = let z : a ≡ e = cc in rw z l
@@ -79,11 +87,17 @@ module _ (d : Domain) (mark : Vector3) (eval : Float → Float → Evaluated) wh
 
   module _ (ss : List Start) (hint : Hint) where
     after-hint : (c : Choice) → ((u v : Float) → hint ≡ Hint.At u v → Beyond c u v) → FromStart 1 ss c → From hint ss c
-    after-hint c sooner r = the-start (r .before) (r .start) (r .after) (r .made) (r .parted) (r .ran) (r .place) sooner (r .sooner)
+    after-hint c sooner r = record {
+      u = r .start .u;
+      v = r .start .v;
+      origin = the-start (r .before) (r .start) (r .after) (r .parted) refl refl (r .place) sooner (r .sooner);
+      made = r .made;
+      ran = r .ran;
+    }
 
     hint-from : (u v : Float) → hint ≡ Hint.At u v → (e : End) (k : ℕ) → run d mark eval u v ≡ answered e k → (cs : List Choice) → ((c : Choice) → Nearest far c cs → FromStart 1 ss c)
         → (c : Choice) → Nearest far c (ofHint e ∷ cs) → From hint ss c
-    hint-from u v h e k p cs rest c (here l) = the-hint u v k h p refl
+    hint-from u v h e k p cs rest c (here l) = record { u = u; v = v; origin = the-hint h refl; made = k; ran = p }
     hint-from u v h e k p cs rest c (there l n) =
         after-hint c (λ x y f. let a : u ≡ x = cc in let b : v ≡ y = cc in rw (← a, ← b) (same-end c u v e k p l)) (rest c n)
 
@@ -93,13 +107,18 @@ module _ (d : Domain) (mark : Vector3) (eval : Float → Float → Evaluated) wh
   led-from {ss = ss} r nothing c n = after-hint ss Hint.Nothing c (λ x y f. absurd (let z : _≡_ {A = ℕ} 0 1 = cc in omega arith)) (starts-from r 1 c n)
   led-from {ss = ss} r (from {u = u} {v = v} {e = e} {k = k} p t) c n = hint-from ss (Hint.At u v) u v refl e k p _ (λ a m. starts-from r 1 a m) c n
 
+  -- "or the start's 1 to 6"
+  pub origin-most : {hint : Hint} {ss : List Start} {c : Choice} {u v : Float} → Origin hint ss c u v → length ss ≤ 6 → c .origin ≤ 6
+  origin-most (the-hint h o) l = omega (arith, o)
+  origin-most {ss = ss} (the-start before s after p e f o sooner all) l = omega (arith, o, l, simp length-append at (ap length p))
+
   -- no distance is a NaN
   module _ (us vs : List Float) (number : (u v : Float) (j : Jet) → eval u v ≡ Found j → isNan (fromMark mark j) ≡ false) where
     abbrev pub starts : List Start
     starts = startsOf (pointsOf mark eval (gridOf us vs))
 
     paired-from : {tolerance : Float} {hint : Hint} {c : Choice} {n : ℕ} → Paired d mark eval us vs tolerance hint c n → From hint starts c
-    paired-from (taken {u = u} {v = v} {n = n} p t) = the-hint u v n refl p refl
+    paired-from (taken {u = u} {v = v} {n = n} p t) = record { u = u; v = v; origin = the-hint refl refl; made = n; ran = p }
     paired-from {c = c} (among h) =
         let g = rw (h .whole) at (survey-grid mark eval us vs) in
         rw (g .points) at (led-from (h .ran) (h .leads) c (nearest-end d mark eval us vs number h))

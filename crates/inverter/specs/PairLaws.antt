@@ -12,7 +12,7 @@ use Rattle.surface.specs.Surface.{Surface, axisU, axisV, scaleOf, refusalOfSurf
 use Rattle.grid.specs.Axis.{valuesOf}
 use Rattle.shortlist.specs.FirstSix.{startsOf}
 use Rattle.shortlist.specs.SortLaws.{NearestSix}
-use Rattle.seeds.specs.Visits.{gridOf}
+use Rattle.seeds.specs.Visits.{gridOf, pointsOf}
 use Rattle.seeds.specs.VisitLaws.{PointsOf}
 use Rattle.price.specs.Price.{Priced, refused, answered, price}
 use Rattle.newton.specs.declared.Iterate.{Iterate}
@@ -26,7 +26,8 @@ use Rattle.inversion.specs.declared.Choice.{Choice}
 use Rattle.inversion.specs.Inversion.{ofHint, inversionBy}
 use Rattle.inversion.specs.Nearest.{First}
 use Rattle.inversion.specs.InversionLaws.{far, candidates, taken, among, hint-taken, pair-held}
-use Rattle.inversion.specs.OriginLaws.{the-hint, the-start}
+use Rattle.inversion.specs.GridLaws.{starts-six}
+use Rattle.inversion.specs.OriginLaws.{origin-most}
 use Rattle.inversion.specs.SurfaceLaws as Surfaces
 use Rattle.inversion.specs.SurfaceLaws.{InDomain, Paired, Chosen, NoNearer, From, in-domain, whole-grid, first-six, nearest-end, grid-no-nearer, paired}
 use Rattle.chart.specs.declared.Period.{Period}
@@ -59,14 +60,6 @@ module _ (s : Surface) (ok : refusalOfSurface s ≡ 0) (mark : Vector3) (terms :
     hint-end : {u v : Float} → terms .hint ≡ At u v → runFrom u v ≡ answered (c .end) n → c .origin ≡ 0 → le (c .end .at .distance) (terms .tolerance) ≡ true → Source c n
     otherwise : Otherwise c n → Source c n
 
-  -- the run that was chosen, from (u, v), and what the name of its end tells
-  pub record Told (c : Choice) : Type 0 where
-    pub u : Float
-    pub v : Float
-    pub made : ℕ
-    pub ran : runFrom u v ≡ answered (c .end) made
-    pub meaning : Meant (domainOf s) mark (evaluateBy s (scaleOf s)) u v (c .end .ending) (c .end .at) made
-
   -- a pair that the call answers with the units it took
   pub record Shifted (c : Choice) (n : ℕ) : Type 0 where
     -- that of the plain steps, before the shift
@@ -80,17 +73,13 @@ module _ (s : Surface) (ok : refusalOfSurface s ≡ 0) (mark : Vector3) (terms :
     -- it was evaluated, and its distance is the one compared
     pub reached : Reached (domainOf s) mark (evaluateBy s (scaleOf s)) (before .end .at)
     pub source : Source before n
-    -- the run that it came from, and how that ended
+    -- the run that it came from, from the hint or from one of six starts, and what the name of that run's end tells
     pub from : From s (scaleOf s) mark (terms .hint) before
-    pub told : Told before
+    pub origin-most : c .origin ≤ 6
+    pub told : Meant (domainOf s) mark (evaluateBy s (scaleOf s)) (from .u) (from .v) (before .end .ending) (before .end .at) (from .made)
     -- "Before that shift, axes without the periodic flag stay in their knot domain."
     pub inside-u : InDomain (s .shape .u .periodic) (axisU s) (before .end .at .u)
     pub inside-v : InDomain (s .shape .v .periodic) (axisV s) (before .end .at .v)
-
-  told-of : (c : Choice) → From s (scaleOf s) mark (terms .hint) c → Told c
-  told-of c (the-hint u v n h r o) = record { u = u; v = v; made = n; ran = r; meaning = end-means (domainOf s) mark (evaluateBy s (scaleOf s)) u v (c .end) n r }
-  told-of c (the-start before a after n h r o sooner all) =
-      record { u = a .u; v = a .v; made = n; ran = r; meaning = end-means (domainOf s) mark (evaluateBy s (scaleOf s)) (a .u) (a .v) (c .end) n r }
 
   same-distance : (h : Hint) (u v : Period) (p : Iterate) → turnedTo h u v p .distance ≡ p .distance
   unfolding turnedTo
@@ -127,7 +116,8 @@ module _ (s : Surface) (ok : refusalOfSurface s ≡ 0) (mark : Vector3) (terms :
         reached = rw w at (pair-held (domainOf s) mark (evaluateBy s (scaleOf s)) (valuesOf (axisU s)) (valuesOf (axisV s)) (terms .hint) (terms .tolerance));
         source = rw (← same) (source-of (terms .hint) refl (rw w at (paired s (scaleOf s) ok mark (terms .hint) (terms .tolerance))));
         from = from;
-        told = told-of a from;
+        origin-most = rw turn (origin-most (domainOf s) mark (evaluateBy s (scaleOf s)) (from .origin) (starts-six (pointsOf mark (evaluateBy s (scaleOf s)) (gridOf (valuesOf (axisU s)) (valuesOf (axisV s))))));
+        told = end-means (domainOf s) mark (evaluateBy s (scaleOf s)) (from .u) (from .v) (a .end) (from .made) (from .ran);
         inside-u = d .0;
         inside-v = d .1;
       }

@@ -1,6 +1,6 @@
 -- What the name of a run's end tells of the pair that it ends at, for every evaluation function. Assumes nothing.
-use Prim.Native.Nat.{ℕ, suc, _+_, _<_}
-use mathlib.Core.Path.{_≡_, refl, sym, _∙_}
+use Prim.Native.Nat.{ℕ, suc, _+_, _≤_}
+use mathlib.Core.Path.{_≡_, refl, sym, ap, _∙_}
 use mathlib.Core.Bool.{Bool, true, false, cond, _&&_, _||_, true≢false}
 use mathlib.Core.List.{List, [], _∷_, _++_, append-assoc}
 use native.Mathlib.Omega.{arith}
@@ -26,7 +26,7 @@ use Rattle.newton.specs.declared.Plan.{Plan}
 use Rattle.newton.specs.declared.Plan.the-variants.{Halt, Probe}
 use Rattle.newton.specs.declared.Verdict.{Verdict}
 use Rattle.newton.specs.declared.Verdict.the-variants as Verdict
-use Rattle.newton.specs.Run.{stepOf, clampInto, isSmallStep, plan, judge, onto, held, round, run, nudgesOn, nudgesIn, nudgesFrom, nudges, endingNumber}
+use Rattle.newton.specs.Run.{stepOf, clampInto, inward, isSmallStep, plan, judge, onto, held, round, run, nudgesOn, nudgesIn, nudgesFrom, nudges, endingNumber}
 use Rattle.newton.specs.RunLaws.{Reached, Planned, settled, stuck, steps, nudge, next, halts, refuses, returns, lands, goes, Carries, by-run, Clamped, planned-clamped, judge-told}
 use Rattle.newton.specs.Visits.{ifOnward, visitsPast, visitsOn, visitsIn, visitsFrom, visits}
 
@@ -35,8 +35,8 @@ kept true c rest n h = h
 kept false true rest n h = h
 kept false false rest n h = h
 
--- an end is told by one digit
-pub ending-digit : (how : Ending) → endingNumber how < 10
+-- 0 to 4
+pub ending-digit : (how : Ending) → endingNumber how ≤ 4
 unfolding endingNumber
 ending-digit Unchanged = omega arith
 ending-digit Further = omega arith
@@ -56,13 +56,37 @@ module _ (d : Domain) (mark : Vector3) (eval : Float → Float → Evaluated) wh
   abbrev pub pairOf : Iterate → Pair
   pairOf p = (p .u, p .v)
 
+  -- the nudge from the pair p leads, clamped, to (u, v)
+  abbrev pub Nudge : Iterate → Float → Float → Type 0
+  Nudge p u v = (u ≡ clampInto (d .u) (inward (d .u) (p .u))) × (v ≡ clampInto (d .v) (inward (d .v) (p .v)))
+
+  -- how a run came to p, of the pairs evaluated before it: p is the start; or a step led to it from the last of them, no further and by no small move; or, where that one is singular, the nudge did
+  pub data Came (earlier : List Pair) (p : Iterate) : Type 0 where
+    starts : earlier ≡ [] → Came earlier p
+    stepped : (before : List Pair) (from : Iterate) (r : Reached d mark eval from) → earlier ≡ before ++ (pairOf from ∷ []) → Target (r .jet) from (p .u) (p .v)
+        → lt (from .distance) (p .distance) ≡ false → isSmallStep d from p ≡ false → Came earlier p
+    nudged : (before : List Pair) (from : Iterate) (r : Reached d mark eval from) → earlier ≡ before ++ (pairOf from ∷ []) → stepOf mark (r .jet) ≡ Singular → Nudge from (p .u) (p .v) → Came earlier p
+
+  -- among these pairs the nudge led from one, which is singular, to the next
+  pub record Nudged (ps : List Pair) : Type 0 where
+    pub before : List Pair
+    pub from : Iterate
+    pub to : Iterate
+    pub after : List Pair
+    pub evaluated : ps ≡ before ++ (pairOf from ∷ pairOf to ∷ after)
+    pub reached : Reached d mark eval from
+    pub singular : stepOf mark (reached .jet) ≡ Singular
+    pub nudge : Nudge from (to .u) (to .v)
+
   -- ---- what holds of a run that ended at p, having evaluated these pairs in this order
 
   module _ (ps : List Pair) (p : Iterate) where
-    -- the step at the pair leads, clamped, to an equal pair
+    -- with a round left, the step at the pair leads, clamped, to an equal pair
     pub record EndsUnchanged : Type 0 where
       pub earlier : List Pair
       pub evaluated : ps ≡ earlier ++ (pairOf p ∷ [])
+      pub came : Came earlier p
+      pub left : length ps ≤ 32
       pub reached : Reached d mark eval p
       pub u : Float
       pub v : Float
@@ -74,6 +98,7 @@ module _ (d : Domain) (mark : Vector3) (eval : Float → Float → Evaluated) wh
       pub earlier : List Pair
       pub further : Iterate
       pub evaluated : ps ≡ earlier ++ (pairOf p ∷ pairOf further ∷ [])
+      pub came : Came earlier p
       pub reached : Reached d mark eval p
       pub found : Reached d mark eval further
       pub target : Target (reached .jet) p (further .u) (further .v)
@@ -85,28 +110,29 @@ module _ (d : Domain) (mark : Vector3) (eval : Float → Float → Evaluated) wh
       pub earlier : List Pair
       pub from : Iterate
       pub evaluated : ps ≡ earlier ++ (pairOf from ∷ pairOf p ∷ [])
+      pub came : Came earlier from
       pub reached : Reached d mark eval p
       pub found : Reached d mark eval from
       pub target : Target (found .jet) from (p .u) (p .v)
       pub no-nearer : lt (from .distance) (p .distance) ≡ false
       pub small : isSmallStep d from p ≡ true
 
-    -- the determinant test holds at the pair
+    -- with a round left, the determinant test holds at the pair, after a nudge
     pub record EndsSingular : Type 0 where
       pub earlier : List Pair
       pub evaluated : ps ≡ earlier ++ (pairOf p ∷ [])
+      pub came : Came earlier p
+      pub left : length ps ≤ 32
       pub reached : Reached d mark eval p
       pub singular : stepOf mark (reached .jet) ≡ Singular
+      pub before : Nudged ps
 
-    -- 33 evaluations, and the last of the rounds went on to the pair, with no end of its own
+    -- 33 evaluations, the last of them at the pair
     pub record EndsRounds : Type 0 where
       pub earlier : List Pair
       pub evaluated : ps ≡ earlier ++ (pairOf p ∷ [])
+      pub came : Came earlier p
       pub count : length ps ≡ 33
-      pub from : Held
-      pub to : Held
-      pub there : to .at ≡ p
-      pub onward : round d mark eval 32 from ≡ onto to
 
   -- ---- a run, from (u, v)
 
@@ -131,29 +157,23 @@ module _ (d : Domain) (mark : Vector3) (eval : Float → Float → Evaluated) wh
       evaluated : visits d mark eval u v ≡ earlier ++ (pairOf (h .at) ∷ visitsIn d mark eval k h)
       place : suc (length earlier) ≡ n
       rounds : n + k ≡ 33
-      before : (m : ℕ) → n ≡ suc (suc m) → (from : Held) × (round d mark eval (suc m) from ≡ onto h)
+      came : Came earlier (h .at)
+      before : h .nudged ≡ true → Nudged (earlier ++ (pairOf (h .at) ∷ []))
       nudge : (h .nudged || nudgesIn d mark eval k n h) ≡ nudges d mark eval u v
 
     abbrev going-reached : {k n : ℕ} {h : Held} → Going k n h → Reached d mark eval (h .at)
     going-reached {h = h} g =
         record { jet = h .jet; found = g .found; distance = g .distance; fromU = g .clamped .0; fromV = g .clamped .1; clampedU = g .clamped .2; clampedV = g .clamped .3 }
 
+    -- the pairs evaluated up to here are as many as the evaluations
+    counted : (ps earlier : List Pair) (p : Pair) (n : ℕ) → ps ≡ earlier ++ (p ∷ []) → suc (length earlier) ≡ n → length ps ≡ n
+    counted ps earlier p n e k = rw e (rw length-append (omega (arith, k)))
+
     done : (n : ℕ) (h : Held) → Going 0 n h → Means (answered (record { at = h .at; ending = AllRounds }) n)
     unfolding visitsIn
     done n h g =
         let full : n ≡ 33 = omega (arith, g .rounds) in
-        let last = g .before 31 full in (
-          record {
-            earlier = g .earlier;
-            evaluated = g .evaluated;
-            count = rw (g .evaluated) (rw length-append (omega (arith, g .place, full)));
-            from = last .0;
-            to = h;
-            there = refl;
-            onward = last .1;
-          },
-          full,
-        )
+        (record { earlier = g .earlier; evaluated = g .evaluated; came = g .came; count = counted _ (g .earlier) (pairOf (h .at)) n (g .evaluated) (g .place) ∙ full }, full)
 
     module _ (k n : ℕ) (h : Held) (g : Going (suc k) n h) where
       -- ---- a round that evaluates nothing
@@ -161,6 +181,9 @@ module _ (d : Domain) (mark : Vector3) (eval : Float → Float → Evaluated) wh
       alone : (how : Ending) → plan d mark h ≡ Halt how → visits d mark eval u v ≡ g .earlier ++ (pairOf (h .at) ∷ [])
       unfolding visitsIn visitsOn
       alone how f = rw f at (g .evaluated)
+
+      few : (how : Ending) → plan d mark h ≡ Halt how → length (visits d mark eval u v) ≤ 32
+      few how f = omega (arith, counted _ (g .earlier) (pairOf (h .at)) n (alone how f) (g .place), g .rounds)
 
       abbrev Halts : Plan → Type 0
       Halts (Halt how) = plan d mark h ≡ Halt how → Meant how (h .at) n
@@ -170,13 +193,26 @@ module _ (d : Domain) (mark : Vector3) (eval : Float → Float → Evaluated) wh
       halts-meant (settled s t e f) = λ w. record {
         earlier = g .earlier;
         evaluated = alone Unchanged w;
+        came = g .came;
+        left = few Unchanged w;
         reached = going-reached g;
         u = clampInto (d .u) (h .at .u ⊕ s);
         v = clampInto (d .v) (h .at .v ⊕ t);
         target = record { s = s; t = t; regular = e; towardsU = refl; towardsV = refl };
         same = f;
       }
-      halts-meant (stuck e f) = λ w. (record { earlier = g .earlier; evaluated = alone SecondSingular w; reached = going-reached g; singular = e }, sym (rw f at (g .nudge)))
+      halts-meant (stuck e f) = λ w. (
+        record {
+          earlier = g .earlier;
+          evaluated = alone SecondSingular w;
+          came = g .came;
+          left = few SecondSingular w;
+          reached = going-reached g;
+          singular = e;
+          before = rw (← alone SecondSingular w) at (g .before f);
+        },
+        sym (rw f at (g .nudge)),
+      )
       halts-meant (steps s t e f) = tt
       halts-meant (nudge e f) = tt
 
@@ -191,6 +227,16 @@ module _ (d : Domain) (mark : Vector3) (eval : Float → Float → Evaluated) wh
       planned-steps (stuck e f) = tt
       planned-steps (steps s t e f) = λ z. (record { s = s; t = t; regular = e; towardsU = refl; towardsV = refl }, f)
       planned-steps (nudge e f) = λ z. absurd (true≢false z)
+
+      abbrev Nudges : Plan → Type 0
+      Nudges (Halt how) = Unit {0}
+      Nudges (Probe c a b) = c ≡ true → (stepOf mark (h .jet) ≡ Singular) × Nudge (h .at) a b
+
+      planned-nudges : {p : Plan} → Planned d mark eval h p → Nudges p
+      planned-nudges (settled s t e f) = tt
+      planned-nudges (stuck e f) = tt
+      planned-nudges (steps s t e f) = λ z. absurd (true≢false (sym z))
+      planned-nudges (nudge e f) = λ z. (e, (refl, refl))
 
       module _ (c : Bool) (a b : Float) (j : Jet) (l : Planned d mark eval h (Probe c a b)) (w : plan d mark h ≡ Probe c a b) (p : eval a b ≡ Found j) where
         abbrev to : Held
@@ -214,6 +260,7 @@ module _ (d : Domain) (mark : Vector3) (eval : Float → Float → Evaluated) wh
               earlier = g .earlier;
               further = to .at;
               evaluated = over-at Verdict.Further q (λ rest. refl);
+              came = g .came;
               reached = going-reached g;
               found = to-reached;
               target = step .0;
@@ -229,6 +276,7 @@ module _ (d : Domain) (mark : Vector3) (eval : Float → Float → Evaluated) wh
               earlier = g .earlier;
               from = h .at;
               evaluated = over-at Verdict.Last q (λ rest. refl);
+              came = g .came;
               reached = to-reached;
               found = going-reached g;
               target = planned-steps l (told .0) .0;
@@ -236,17 +284,55 @@ module _ (d : Domain) (mark : Vector3) (eval : Float → Float → Evaluated) wh
               small = told .2;
             }
 
+        abbrev seen : List Pair
+        seen = g .earlier ++ (pairOf (h .at) ∷ [])
+
+        came-on : (b : Bool) → c ≡ b → judge d (h .at) c (to .at) ≡ Verdict.Onward → Came seen (to .at)
+        came-on true w q = let n = planned-nudges l w in nudged (g .earlier) (h .at) (going-reached g) refl (n .0) (n .1)
+        came-on false w q =
+            let told = (rw q at (judge-told d (h .at) c (to .at))) w in
+            stepped (g .earlier) (h .at) (going-reached g) refl (planned-steps l w .0) (told .0) (told .1)
+
+        -- a nudge before this round, or this one
+        nudged-on : (b f : Bool) → c ≡ b → h .nudged ≡ f → (f || b) ≡ true → Nudged (seen ++ (pairOf (to .at) ∷ []))
+        nudged-on b true w e z =
+            let k = g .before e in
+            record {
+              before = k .before;
+              from = k .from;
+              to = k .to;
+              after = k .after ++ (pairOf (to .at) ∷ []);
+              evaluated = ap (λ xs. xs ++ (pairOf (to .at) ∷ [])) (k .evaluated) ∙ append-assoc (k .before) _ _;
+              reached = k .reached;
+              singular = k .singular;
+              nudge = k .nudge;
+            }
+        nudged-on true false w e z =
+            let n = planned-nudges l w in
+            record {
+              before = g .earlier;
+              from = h .at;
+              to = to .at;
+              after = [];
+              evaluated = append-assoc (g .earlier) _ _;
+              reached = going-reached g;
+              singular = n .0;
+              nudge = n .1;
+            }
+        nudged-on false false w e z = absurd (true≢false (sym z))
+
         goes-on : judge d (h .at) c (to .at) ≡ Verdict.Onward → round d mark eval n h ≡ onto to → Going k (suc n) to
         unfolding visitsIn visitsOn visitsPast ifOnward nudgesIn nudgesOn
         goes-on q e = record {
           clamped = planned-clamped d mark eval l;
           found = p;
           distance = refl;
-          earlier = g .earlier ++ (pairOf (h .at) ∷ []);
+          earlier = seen;
           evaluated = rw (w, p, q) at (g .evaluated) ∙ sym (append-assoc (g .earlier) _ _);
           place = rw length-append (omega (arith, g .place));
           rounds = omega (arith, g .rounds);
-          before = λ m z. (h, let same : n ≡ suc m = omega arith in rw (← same) e);
+          came = came-on c refl q;
+          before = λ z. nudged-on c (h .nudged) refl refl z;
           nudge = kept (h .nudged) c _ _ (rw e at (g .nudge));
         }
 
@@ -267,7 +353,8 @@ module _ (d : Domain) (mark : Vector3) (eval : Float → Float → Evaluated) wh
       evaluated = rw p refl;
       place = refl;
       rounds = refl;
-      before = λ m z. absurd (omega arith);
+      came = starts refl;
+      before = λ z. absurd (true≢false (sym z));
       nudge = rw p refl;
     }
 
@@ -281,7 +368,7 @@ module _ (d : Domain) (mark : Vector3) (eval : Float → Float → Evaluated) wh
       meant : (how : Ending) → e .ending ≡ how → Meant how (e .at) n
       meant how q = rw q at end-means
 
-      -- "pair unchanged": the step at the pair is not singular, and its target, clamped, equals the pair
+      -- "pair unchanged": with a round left, the step at the pair is not singular, and its target, clamped, equals the pair
       pub end-unchanged : e .ending ≡ Unchanged → EndsUnchanged (visits d mark eval u v) (e .at)
       end-unchanged = meant Unchanged
 
@@ -293,10 +380,10 @@ module _ (d : Domain) (mark : Vector3) (eval : Float → Float → Evaluated) wh
       pub end-small : e .ending ≡ SmallStep → EndsSmall (visits d mark eval u v) (e .at)
       end-small = meant SmallStep
 
-      -- "second singular point": the run was nudged before, and the determinant test holds at the pair
+      -- "second singular point": the run was nudged before, and with a round left the determinant test holds at the pair
       pub end-singular : e .ending ≡ SecondSingular → EndsSingular (visits d mark eval u v) (e .at) × (nudges d mark eval u v ≡ true)
       end-singular = meant SecondSingular
 
-      -- "32 rounds": 33 evaluations were made, and the last round ended nothing
+      -- "32 rounds": 33 evaluations were made, and the last of them was a nudge, or a step to no further point and not small
       pub end-rounds : e .ending ≡ AllRounds → EndsRounds (visits d mark eval u v) (e .at) × (n ≡ 33)
       end-rounds = meant AllRounds

@@ -1,4 +1,4 @@
--- Runs, computed: on the unit square of a plane, on one that is all one point, and on a parabola. They end unchanged, by a small step, at a second singular point, and at a further point.
+-- Runs, computed: on the unit square of a plane, on one that is all one point, and on a parabola. They end in each of the five ways.
 use mathlib.Core.Path.{_≡_, refl}
 use mathlib.Core.Bool.{true, false}
 use mathlib.Core.List.{[], _∷_}
@@ -11,7 +11,8 @@ use Rattle.patch.specs.declared.Evaluated.{Evaluated}
 use Rattle.patch.specs.declared.Evaluated.the-variants.{Found}
 use Rattle.price.specs.Price.{answered}
 use Rattle.domain.specs.declared.Domain.{Domain}
-use Rattle.newton.specs.declared.Ending.the-variants.{Unchanged, Further, SmallStep, SecondSingular}
+use Rattle.newton.specs.declared.Iterate.{Iterate}
+use Rattle.newton.specs.declared.Ending.the-variants.{Unchanged, Further, SmallStep, SecondSingular, AllRounds}
 use Rattle.newton.specs.Run.{run, nudges}
 use Rattle.newton.specs.Visits.{visits}
 use Rattle.newton.specs.Compute.{compute}
@@ -44,9 +45,9 @@ tiny : Float
 tiny = fin false 1 (negsuc 52)
 
 -- one step, of less than 1e-15 of the domain
-halts : run unit (at (½· ⊕ tiny) ½·) square ½· ½· ≡ answered (record { at = record { u = ½· ⊕ tiny; v = ½·; distance = 0· }; ending = SmallStep }) 2
+lands : run unit (at (½· ⊕ tiny) ½·) square ½· ½· ≡ answered (record { at = record { u = ½· ⊕ tiny; v = ½·; distance = 0· }; ending = SmallStep }) 2
 unfolding compute unit at square tiny
-halts = refl
+lands = refl
 
 visited : visits unit (record { x = ¼·; y = ½·; z = ¾· }) square ½· ½· ≡ (½·, ½·) ∷ (¼·, ½·) ∷ []
 unfolding compute unit at square ¼· ¾·
@@ -75,6 +76,11 @@ parabola u v = Found (record { point = record { x = u; y = v; z = u ⊗ u }; u =
 returns : run valley (record { x = 0·; y = 0·; z = neg 1· }) parabola ⅛· 0· ≡ answered (record { at = record { u = ⅛·; v = 0·; distance = root (fin false 4289 (negsuc 11)) }; ending = Further }) 2
 unfolding compute at valley parabola ⅛·
 returns = refl
+
+-- over 0 to 1, from (1/2, 0) towards the mark (0, 0, 1/2): each step leads nearer, and none is small
+goes-on : (p : Iterate) × (run unit (record { x = 0·; y = 0·; z = ½· }) parabola ½· 0· ≡ answered (record { at = p; ending = AllRounds }) 33)
+unfolding compute unit at parabola
+goes-on = (_, refl)
 
 nudged : nudges unit mark dot 0· 0· ≡ true
 unfolding compute unit at dot mark

@@ -204,20 +204,20 @@ mark-next ms i h =
 pub record Stands (whole : Rowed) (answers₀ : List Float) (ends₀ : List ℕ) (i : ℕ) (answers : List Float) (ends : List ℕ) (rest : Rowed) : Type 0 where
   pub end : whole .ended ≡ rest .ended
   pub pairs : Holds uOf vOf (whole .pairs) answers₀ i answers (rest .pairs)
-  pub names : Holds endOf originOf (whole .pairs) ends₀ i ends (rest .pairs)
+  pub bytes : Holds endOf originOf (whole .pairs) ends₀ i ends (rest .pairs)
 
 module _ (whole : Rowed) (xs₀ xs : List Float) (bs₀ bs : List ℕ) (i : ℕ) {r : Rowed} (st : Stands whole xs₀ bs₀ i xs bs r) where
   stand-ends : {o : RowEnd} → r ≡ record { pairs = []; ended = o } → {zs : List Float} → zs ≡ xs → {cs : List ℕ} → cs ≡ bs → Leaves whole xs₀ bs₀ (left o zs cs)
   stand-ends e z c =
       let none = ap (λ (q : Rowed). q .pairs) e in
-      alike (sym (st .end ∙ ap (λ (q : Rowed). q .ended) e)) (hold-ends uOf vOf (whole .pairs) xs₀ xs i (st .pairs) none z) (hold-ends endOf originOf (whole .pairs) bs₀ bs i (st .names) none c)
+      alike (sym (st .end ∙ ap (λ (q : Rowed). q .ended) e)) (hold-ends uOf vOf (whole .pairs) xs₀ xs i (st .pairs) none z) (hold-ends endOf originOf (whole .pairs) bs₀ bs i (st .bytes) none c)
 
 module _ (s : Surface) (ms : List Float) where
   abbrev pub restFrom : ℕ → Progress → Rowed
   restFrom i p = inTurn s i (marksOf (drop (3 * i) ms)) p
 
   pub begins : (xs : List Float) (bs : List ℕ) (p : Progress) → Stands (inTurn s 0 (marksOf ms) p) xs bs 0 xs bs (restFrom 0 p)
-  begins xs bs p = record { end = refl; pairs = refl; names = refl }
+  begins xs bs p = record { end = refl; pairs = refl; bytes = refl }
 
   module _ (whole : Rowed) (xs₀ xs : List Float) (bs₀ bs : List ℕ) (i : ℕ) (p : Progress) (st : Stands whole xs₀ bs₀ i xs bs (restFrom i p)) where
     pub over : length ms ≡ 3 * i → Leaves whole xs₀ bs₀ (left (RowEnd.Placed (p .left)) xs bs)
@@ -249,7 +249,7 @@ module _ (s : Surface) (ms : List Float) where
             record {
               end = st .end ∙ ap (λ (o : Rowed). o .ended) placed-next;
               pairs = hold-placed uOf vOf (whole .pairs) xs₀ xs i (st .pairs) more (back-placed uOf vOf xs ys (2 * i) f z) l;
-              names = hold-placed endOf originOf (whole .pairs) bs₀ bs i (st .names) more (back-placed endOf originOf bs cs (2 * i) k z) n;
+              bytes = hold-placed endOf originOf (whole .pairs) bs₀ bs i (st .bytes) more (back-placed endOf originOf bs cs (2 * i) k z) n;
             }
 
         pub kept-long : (length answers ≡ length xs) × (length ends ≡ length bs)

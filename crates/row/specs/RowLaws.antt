@@ -8,7 +8,7 @@ use lib.Dec.{ltb, eqb}
 use lib.ListN.{length, drop, length-append, length-drop}
 use lib.Seq.{drop-at}
 use lib.Ieee.{Float, isNan}
-use borrow.Author.Tests.{ltb-false, eqb-true, not-false}
+use borrow.Author.Tests.{ltb-false, le-ltb, eqb-true, not-false}
 use Rattle.float64.specs.Order.{neither}
 use Rattle.vector3.specs.declared.Vector3.{Vector3}
 use Rattle.surface.specs.Surface.{Surface}
@@ -29,7 +29,7 @@ use Rattle.inverter.specs.PlacingLaws.{Numbered, placed-sound, placed-by-cases}
 use Rattle.row.specs.declared.Progress.{Progress}
 use Rattle.row.specs.declared.Stepped.{Stepped}
 use Rattle.row.specs.declared.Stepped.the-variants.{Placed, Refusal}
-use Rattle.row.specs.Row.{Entry, Rowed, marksOf, stepBy, stepped, andThen, inTurn, unlessRefused, rowed, misfit, rowInto, listed, written, uOf, vOf, endOf, originOf, leaving, numberOf, indexOf, leftOf}
+use Rattle.row.specs.Row.{Entry, Rowed, marksOf, stepBy, stepped, refusedAt, andThen, inTurn, unlessRefused, rowed, misfit, rowInto, listed, written, uOf, vOf, endOf, originOf, leaving, numberOf, indexOf, leftOf}
 
 -- ---- how a row ends
 
@@ -85,7 +85,7 @@ module _ (s : Surface) (terms : Terms) (budget : ℕ) where
 pub record Fits (coordinates numbers bytes : ℕ) : Type 0 where
   pub threes : coordinates ≡ 3 * (coordinates / 3)
   pub pairs : 2 * (coordinates / 3) ≤ numbers
-  pub names : 2 * (coordinates / 3) ≤ bytes
+  pub ends : 2 * (coordinates / 3) ≤ bytes
 
 pub fits : (coordinates numbers bytes : ℕ) → misfit coordinates numbers bytes ≡ false → Fits coordinates numbers bytes
 unfolding misfit
@@ -93,7 +93,29 @@ fits coordinates numbers bytes h =
     let t = neither (not (eqb (coordinates % 3) 0) || ltb numbers (2 * (coordinates / 3))) (ltb bytes (2 * (coordinates / 3))) h in
     let w = neither (not (eqb (coordinates % 3) 0)) (ltb numbers (2 * (coordinates / 3))) (t .0) in
     let z : coordinates % 3 ≡ 0 = eqb-true _ _ (not-false _ (w .0)) in
-    record { threes = omega arith; pairs = ltb-false _ _ (w .1); names = ltb-false _ _ (t .1) }
+    record { threes = omega arith; pairs = ltb-false _ _ (w .1); ends = ltb-false _ _ (t .1) }
+
+-- and where they are, it is not 11
+pub fits-back : (coordinates numbers bytes : ℕ) → Fits coordinates numbers bytes → misfit coordinates numbers bytes ≡ false
+unfolding misfit
+fits-back coordinates numbers bytes f =
+    let z : coordinates % 3 ≡ 0 = omega (arith, f .threes) in
+    simp (z, le-ltb numbers (2 * (coordinates / 3)) (f .pairs), le-ltb bytes (2 * (coordinates / 3)) (f .ends))
+
+module _ (s : Surface) (coordinates : List Float) (numbers bytes : ℕ) (terms : Terms) (budget : ℕ) where
+  -- "11 too": with no mark's index, the budget whole, and nothing written; before any other check
+  pub row-misfit : (Fits (length coordinates) numbers bytes → ⊥) → rowInto s coordinates numbers bytes terms budget ≡ refusedAt 0 11 budget
+  unfolding rowInto unlessRefused
+  row-misfit f = by (misfit (length coordinates) numbers bytes) refl
+    where
+      by : (t : Bool) → misfit (length coordinates) numbers bytes ≡ t → rowInto s coordinates numbers bytes terms budget ≡ refusedAt 0 11 budget
+      by true e = simp e
+      by false e = absurd (f (fits (length coordinates) numbers bytes e))
+
+  -- and else it is the row of these marks, whatever the buffers' lengths
+  pub row-fits : Fits (length coordinates) numbers bytes → rowInto s coordinates numbers bytes terms budget ≡ rowed s (marksOf coordinates) terms budget
+  unfolding rowInto unlessRefused
+  row-fits f = simp (fits-back (length coordinates) numbers bytes f)
 
 marks-count : (coordinates : List Float) → length (marksOf coordinates) ≡ length coordinates / 3
 unfolding marksOf
@@ -131,7 +153,7 @@ module _ (s : Surface) (coordinates : List Float) (terms : Terms) (budget : ℕ)
       by false h =
           let f = fits (length coordinates) numbers bytes h in
           let m = row-ends s terms budget coordinates numbers bytes .most in
-          (omega (arith, f .pairs, marks-count coordinates, m), omega (arith, f .names, marks-count coordinates, m))
+          (omega (arith, f .pairs, marks-count coordinates, m), omega (arith, f .ends, marks-count coordinates, m))
 
   -- the buffers keep their lengths
   pub row-length : (xs : List Float) (bs : List ℕ)

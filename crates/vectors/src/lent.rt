@@ -19,9 +19,9 @@ pub fn of_surface(
     bytes: &[u8],
     numbers: &[f64],
     copy: &mut [f64],
-    names: &mut [u8],
+    ends: &mut [u8],
 ) -> Comparison
-    requires { ⌜ (length (now words) ≤ 4094) × (length (now bytes) ≡ 8 * length (now words)) × (length (now numbers) ≡ length (now words)) × (length (now copy) ≡ length (now words)) × (length (now names) ≡ 8 * length (now words)) ⌝ }
+    requires { ⌜ (length (now words) ≤ 4094) × (length (now bytes) ≡ 8 * length (now words)) × (length (now numbers) ≡ length (now words)) × (length (now copy) ≡ length (now words)) × (length (now ends) ≡ 8 * length (now words)) ⌝ }
 {
     let lent = lent_surface(Cursor::start(), words);
     let weights = lent.weights;
@@ -43,7 +43,7 @@ pub fn of_surface(
             &bytes[8 * at..],
             &numbers[at..],
             &mut copy[at..],
-            &mut names[8 * at..],
+            &mut ends[8 * at..],
         ),
         _ => Comparison::Unread,
     }

@@ -69,7 +69,7 @@ fn one_record(tally: Tally) -> Pass {
     let size = 8 * count;
     // A row's buffers are lent from copies, so that the record's numbers and bytes stay as they are.
     let mut copy = numbers;
-    let mut names = bytes;
+    let mut ends = bytes;
     match input {
         Input::Record => Pass {
             tally: tally.with(
@@ -80,7 +80,7 @@ fn one_record(tally: Tally) -> Pass {
                     &bytes[..size],
                     &numbers[..count],
                     &mut copy[..count],
-                    &mut names[..size],
+                    &mut ends[..size],
                 ),
             ),
             more: true,
@@ -99,9 +99,9 @@ fn outcome(
     bytes: &[u8],
     numbers: &[f64],
     copy: &mut [f64],
-    names: &mut [u8],
+    ends: &mut [u8],
 ) -> Comparison
-    requires { ⌜ (length (now bytes) ≡ 8 * length (now words)) × (length (now words) ≤ 4094) × (length (now numbers) ≡ length (now words)) × (length (now copy) ≡ length (now words)) × (length (now names) ≡ 8 * length (now words)) ⌝ }
+    requires { ⌜ (length (now bytes) ≡ 8 * length (now words)) × (length (now words) ≤ 4094) × (length (now numbers) ≡ length (now words)) × (length (now copy) ≡ length (now words)) × (length (now ends) ≡ 8 * length (now words)) ⌝ }
 {
     match kind {
         kinds::WEIGHTS => splines::of_weights(words, numbers),
@@ -111,6 +111,6 @@ fn outcome(
         kinds::PLANE => inversions::of_plane(words),
         kinds::JOB => jobs::of_job(words, bytes),
         kinds::IS_FINITE..=kinds::REM_EUCLID => floats::of_float(kind, words),
-        _ => lent::of_surface(kind, words, bytes, numbers, copy, names),
+        _ => lent::of_surface(kind, words, bytes, numbers, copy, ends),
     }
 }

@@ -22,9 +22,9 @@ pub fn of_row(
     bytes: &[u8],
     asked: &[f64],
     copy: &mut [f64],
-    names: &mut [u8],
+    ends: &mut [u8],
 ) -> Comparison
-    requires { ⌜ Inside (length (now numbers)) lent × (length (now words) ≤ 4094) × (length (now bytes) ≡ 8 * length (now words)) × (length (now asked) ≡ length (now words)) × (length (now copy) ≡ length (now words)) × (length (now names) ≡ 8 * length (now words)) ⌝ }
+    requires { ⌜ Inside (length (now numbers)) lent × (length (now words) ≤ 4094) × (length (now bytes) ≡ 8 * length (now words)) × (length (now asked) ≡ length (now words)) × (length (now copy) ≡ length (now words)) × (length (now ends) ≡ 8 * length (now words)) ⌝ }
 {
     let marks = Cursor::start().numbers(words);
     let c = marks.next;
@@ -40,7 +40,7 @@ pub fn of_row(
         &words[at..],
         &bytes[8 * at..],
         &mut copy[at..],
-        &mut names[8 * at..],
+        &mut ends[8 * at..],
     )
 }
 
@@ -52,9 +52,9 @@ fn with_marks(
     words: &[u64],
     bytes: &[u8],
     copy: &mut [f64],
-    names: &mut [u8],
+    ends: &mut [u8],
 ) -> Comparison
-    requires { ⌜ Inside (length (now numbers)) lent × (length (now words) ≤ 4094) × (length (now bytes) ≡ 8 * length (now words)) × (length (now copy) ≡ length (now words)) × (length (now names) ≡ 8 * length (now words)) ⌝ }
+    requires { ⌜ Inside (length (now numbers)) lent × (length (now words) ≤ 4094) × (length (now bytes) ≡ 8 * length (now words)) × (length (now copy) ≡ length (now words)) × (length (now ends) ≡ 8 * length (now words)) ⌝ }
 {
     if words.len() < 9 {
         return Comparison::Unread;
@@ -78,7 +78,7 @@ fn with_marks(
         &words[at..],
         &bytes[8 * at..],
         &mut copy[from..to],
-        &mut names[8 * at..],
+        &mut ends[8 * at..],
     )
 }
 
@@ -92,9 +92,9 @@ fn with_answers(
     words: &[u64],
     bytes: &[u8],
     buffer: &mut [f64],
-    names: &mut [u8],
+    ends: &mut [u8],
 ) -> Comparison
-    requires { ⌜ Inside (length (now numbers)) lent × (length (now words) ≤ 4094) × (length (now bytes) ≡ 8 * length (now words)) × (length (now names) ≡ 8 * length (now words)) ⌝ }
+    requires { ⌜ Inside (length (now numbers)) lent × (length (now words) ≤ 4094) × (length (now bytes) ≡ 8 * length (now words)) × (length (now ends) ≡ 8 * length (now words)) ⌝ }
 {
     if words.len() < 1 {
         return Comparison::Unread;
@@ -112,7 +112,7 @@ fn with_answers(
         terms,
         budget,
         buffer,
-        &mut names[8..8 + count],
+        &mut ends[8..8 + count],
         &words[at..],
         &bytes[8 * at..],
     )
@@ -143,7 +143,7 @@ fn row_outcome(
         return Comparison::Unread;
     }
     let answers = &words[3..pairs];
-    let names = &bytes[8 * pairs..];
+    let told = &bytes[8 * pairs..];
     let ended = row::row(
         lent.shape,
         lend(numbers, lent.ku),
@@ -159,7 +159,7 @@ fn row_outcome(
     one_answer(
         is_ended(ended, words[0], words[1], words[2])
             && same_list(buffer, answers)
-            && begins(names, ends),
+            && begins(told, ends),
     )
 }
 

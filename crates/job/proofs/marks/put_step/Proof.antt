@@ -1,9 +1,16 @@
 -- `job::marks::put_step` meets its contract, by the step's cases. Assumes nothing.
+use Rattle.newton.specs.declared.Ending.{Ending}
+use Rattle.newton.specs.Run.{endingNumber}
 use Rattle.newton.specs.EndLaws.{ending-digit}
 use Rattle.job.specs.Turns.{stepLine}
+use Prim.Native.Nat.{_<_}
+use native.Mathlib.Omega.{arith}
 use borrow.Author.Needs.{needs}
 use Rattle.job.proofs.marks.put_step.Statement.{statement}
 use Rattle.job.proofs.marks.put_step.Tie as tie
+
+one-digit : (how : Ending) → endingNumber how < 10
+one-digit how = omega (arith, ending-digit how)
 
 put-pair-requires : tie.Need-put-pair-requires
 put-pair-requires c κs =
@@ -11,7 +18,7 @@ put-pair-requires c κs =
     let k = e .before .before .before in
     let s = k .before .before .before in
     let n = rw (k .stepped .given .1) at (s .pre .1) in
-    (s .pre .0, n .0 .0, n .0 .1, rw (e .ending-number .ensures) (ending-digit _))
+    (s .pre .0, n .0 .0, n .0 .1, rw (e .ending-number .ensures) (one-digit _))
 
 returns : tie.Need-returns
 unfolding stepLine

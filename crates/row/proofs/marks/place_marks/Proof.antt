@@ -24,7 +24,7 @@ loop-holds : tie.Need-loop-holds Inv-loop μ-loop
 loop-holds c =
     let at = c .before .before .before .before .before .before .before in
     let f = fits _ _ _ (at .pre .1) in
-    (omega arith, f .threes, f .pairs, refl, f .names, refl, begins _ _ _ _ _)
+    (omega arith, f .threes, f .pairs, refl, f .ends, refl, begins _ _ _ _ _)
 
 returns : tie.Need-returns Inv-loop μ-loop
 returns c =
