@@ -4,7 +4,7 @@ use mathlib.Core.Bool.{Bool, true, false}
 use mathlib.Core.List.{List}
 use Prim.Native.Nat.{ℕ, _+_, _-_, _≤_}
 use native.Mathlib.Omega.{arith}
-use lib.Ieee.{Float, le}
+use lib.Ieee.{Float}
 use borrow.Author.Tests.{ne-eqb}
 use Rattle.vector3.specs.declared.Vector3.{Vector3}
 use Rattle.price.specs.Price.{Priced, refused, answered, price, after, mapped, _then_, spent, spend}
@@ -31,7 +31,7 @@ use Rattle.inversion.specs.declared.Best.{Best}
 use Rattle.inversion.specs.declared.Best.the-variants.{Nothing, At}
 use Rattle.inversion.specs.declared.Answer.{Answer}
 use Rattle.inversion.specs.declared.Answer.the-variants as Answer
-use Rattle.inversion.specs.Inversion.{ofHint, searched, explored, exploredOn, unlessClose, hinted, plainSteps, inversionBy, answerOf}
+use Rattle.inversion.specs.Inversion.{ofHint, within, searched, explored, exploredOn, unlessClose, hinted, plainSteps, inversionBy, answerOf}
 use Rattle.inversion.proofs.SearchSteps.{chosen-told, refusal-told, too-dear}
 
 -- ---- the grid, and the search after it
@@ -105,7 +105,7 @@ module _ (s : Surface) (m : Float) (mark : Vector3) (hint : Hint) (tolerance : F
     hinted-least : (r : Priced End) → price r ≤ price (afterRun r)
     unfolding hinted unlessClose
     hinted-least (refused k) = omega arith
-    hinted-least (answered a k) = by (le (a .at .distance) tolerance)
+    hinted-least (answered a k) = by (within tolerance a)
       where
         by : (t : Bool) → k ≤ price (unlessClose (domainOf s) mark (evaluateBy s m) (valuesOf (axisU s)) (valuesOf (axisV s)) t a k)
         by true = omega arith
@@ -124,14 +124,14 @@ module _ (s : Surface) (m : Float) (mark : Vector3) (hint : Hint) (tolerance : F
       pub hint-fits : k ≤ budget
       hint-fits = ended-back budget _ e a k ended .1
 
-      weighed : inversionBy s m mark hint tolerance ≡ unlessClose (domainOf s) mark (evaluateBy s m) (valuesOf (axisU s)) (valuesOf (axisV s)) (le (a .at .distance) tolerance) a k
+      weighed : inversionBy s m mark hint tolerance ≡ unlessClose (domainOf s) mark (evaluateBy s m) (valuesOf (axisU s)) (valuesOf (axisV s)) (within tolerance a) a k
       unfolding hinted
       weighed = by-run ∙ rw (ended-back budget _ e a k ended .0)
 
-      pub hint-close : le (a .at .distance) tolerance ≡ true → Answer.Chosen (ofHint a) k ≡ answer
+      pub hint-close : within tolerance a ≡ true → Answer.Chosen (ofHint a) k ≡ answer
       unfolding unlessClose
       hint-close t = rw (weighed, t) (chosen-told budget (ofHint a) k hint-fits)
 
-      pub hint-far : le (a .at .distance) tolerance ≡ false → {r : Answer} → r ≡ answerOf (spend budget (after k (exploredOn s m mark (At (ofHint a)) k))) → r ≡ answer
+      pub hint-far : within tolerance a ≡ false → {r : Answer} → r ≡ answerOf (spend budget (after k (exploredOn s m mark (At (ofHint a)) k))) → r ≡ answer
       unfolding unlessClose
       hint-far t h = h ∙ rw (weighed, t)

@@ -34,6 +34,10 @@ numbered i (e ∷ es) = record { end = e; origin = i } ∷ numbered (suc i) es
 
 -- ---- the choice among them
 
+-- a run's end lies within the tolerance
+abbrev pub within : Float → End → Bool
+within tolerance e = le (e .at .distance) tolerance
+
 -- the first with the least distance
 unfoldable pub nearer : Choice → Choice → Choice
 nearer a b = cond (lt (b .end .at .distance) (a .end .at .distance)) b a
@@ -73,7 +77,7 @@ module _ (d : Domain) (mark : Vector3) (eval : Float → Float → Evaluated) wh
 
     unfoldable pub hinted : Float → Priced End → Priced Choice
     hinted tolerance (refused k) = refused k
-    hinted tolerance (answered e k) = unlessClose (le (e .at .distance) tolerance) e k
+    hinted tolerance (answered e k) = unlessClose (within tolerance e) e k
 
     unfoldable pub plainSteps : Hint → Float → Priced Choice
     plainSteps Hint.Nothing tolerance = explored Nothing 0

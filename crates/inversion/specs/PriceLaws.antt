@@ -5,7 +5,7 @@ use Prim.Native.Nat.{ℕ, _+_, _*_, _≤_}
 use native.Mathlib.Nat.{mul-le-mul}
 use native.Mathlib.Omega.{arith}
 use lib.ListN.{length}
-use lib.Ieee.{Float, le}
+use lib.Ieee.{Float}
 use Rattle.vector3.specs.declared.Vector3.{Vector3}
 use Rattle.price.specs.Price.{Priced, refused, answered, price, mapped}
 use Rattle.price.specs.PriceLaws.{Between, after-price, mapped-price, mapped-then, then-least, then-most}
@@ -22,7 +22,7 @@ use Rattle.inversion.specs.declared.Hint.the-variants as Hint
 use Rattle.inversion.specs.declared.Choice.{Choice}
 use Rattle.inversion.specs.declared.Best.{Best}
 use Rattle.inversion.specs.declared.Best.the-variants.{Nothing, At}
-use Rattle.inversion.specs.Inversion.{ofHint, numbered, led, choose, runs, searched, explored, unlessClose, hinted, plainSteps}
+use Rattle.inversion.specs.Inversion.{ofHint, numbered, within, led, choose, runs, searched, explored, unlessClose, hinted, plainSteps}
 use Rattle.inversion.specs.GridLaws.{survey-price, starts-six}
 
 choose-most : (k : ℕ) (cs : List Choice) → price (choose k cs) ≤ k
@@ -80,7 +80,7 @@ module _ (d : Domain) (mark : Vector3) (eval : Float → Float → Evaluated) wh
     hinted-bounds : (tolerance : Float) (r : Priced End) → Between 1 (price r) 33 → Between 1 (price (hinted d mark eval us vs tolerance r)) 37513
     unfolding hinted
     hinted-bounds tolerance (refused k) h = record { above = h .above; under = omega arith }
-    hinted-bounds tolerance (answered e k) h = close-bounds (le (e .at .distance) tolerance) e k h
+    hinted-bounds tolerance (answered e k) h = close-bounds (within tolerance e) e k h
 
     -- "an inversion on it has one price, 01's count of evaluations, 1 to 37,513, whatever its budget"
     pub price-bounds : (hint : Hint) (tolerance : Float) → Between 1 (price (plainSteps d mark eval us vs hint tolerance)) 37513

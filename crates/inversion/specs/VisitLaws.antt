@@ -5,7 +5,7 @@ use mathlib.Core.List.{List, [], _∷_, _++_, append-nil}
 use Prim.Native.Nat.{ℕ, _≤_}
 use native.Mathlib.Omega.{arith}
 use lib.ListN.{length}
-use lib.Ieee.{Float, le}
+use lib.Ieee.{Float}
 use Rattle.vector3.specs.declared.Vector3.{Vector3}
 use Rattle.price.specs.Price.{Priced, refused, answered, mapped, _then_}
 use Rattle.price.specs.PriceLaws.{mapped-then}
@@ -27,7 +27,7 @@ use Rattle.inversion.specs.declared.Hint.the-variants as Hint
 use Rattle.inversion.specs.declared.Choice.{Choice}
 use Rattle.inversion.specs.declared.Best.{Best}
 use Rattle.inversion.specs.declared.Best.the-variants.{Nothing, At}
-use Rattle.inversion.specs.Inversion.{ofHint, numbered, nearestOf, led, choose, runs, searched, explored, unlessClose, hinted, plainSteps}
+use Rattle.inversion.specs.Inversion.{ofHint, numbered, within, nearestOf, led, choose, runs, searched, explored, unlessClose, hinted, plainSteps}
 use Rattle.inversion.specs.Visits.{isClose, visitsOf, search, planned, evaluations}
 use Rattle.inversion.specs.InversionLaws.{ends-some}
 
@@ -84,7 +84,7 @@ module _ (d : Domain) (mark : Vector3) (eval : Float → Float → Evaluated) wh
     unfolding hinted isClose _then_
     hinted-evaluates tolerance again (refused k) h =
         then-evaluates eval again (search d mark eval us vs again) (λ (e : End). answered (ofHint e) 0) (refused k) h (λ e n p. absurd (let y : _≡_ {A = ℕ} 0 1 = cc in omega arith))
-    hinted-evaluates tolerance again (answered e k) h = close-evaluates again (le (e .at .distance) tolerance) e k h
+    hinted-evaluates tolerance again (answered e k) h = close-evaluates again (within tolerance e) e k h
 
     -- the price of the plain steps is the number of pairs that they evaluate; where they are answered all are found, and where not the last is refused and no other
     pub steps-evaluate : (hint : Hint) (tolerance : Float) → Evaluates eval (plainSteps d mark eval us vs hint tolerance) (evaluations d mark eval us vs hint tolerance)

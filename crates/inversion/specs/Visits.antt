@@ -1,7 +1,7 @@
 -- The pairs that an inversion in plain steps evaluates, in order, with no word of a count. Definitions only.
 use mathlib.Core.Bool.{Bool, false, cond}
 use mathlib.Core.List.{List, [], _∷_, _++_}
-use lib.Ieee.{Float, le}
+use lib.Ieee.{Float}
 use Rattle.vector3.specs.declared.Vector3.{Vector3}
 use Rattle.price.specs.Price.{Priced, refused, answered}
 use Rattle.price.specs.Evaluations.{Pair, until}
@@ -17,11 +17,12 @@ use Rattle.grid.specs.Axis.{valuesOf}
 use Rattle.seeds.specs.Visits.{gridOf, pointsOf}
 use Rattle.inversion.specs.declared.Hint.{Hint}
 use Rattle.inversion.specs.declared.Hint.the-variants.{Nothing, At}
+use Rattle.inversion.specs.Inversion.{within}
 
 -- whether a run ends within the tolerance; a refused one has no end
 unfoldable pub isClose : Float → Priced End → Bool
 isClose tolerance (refused n) = false
-isClose tolerance (answered e n) = le (e .at .distance) tolerance
+isClose tolerance (answered e n) = within tolerance e
 
 module _ (d : Domain) (mark : Vector3) (eval : Float → Float → Evaluated) where
   -- each start's run, in order

@@ -13,7 +13,7 @@ ghost use Rattle.vector3.specs.Laws.{Finite};
 ghost use Rattle.price.specs.Price.{spend};
 ghost use Rattle.surface.specs.Lent.{surfaceOf, atEntry};
 ghost use Rattle.scaled.specs.Accepted.{Accepts};
-ghost use Rattle.inversion.specs.Inversion.{inversionBy, answerOf};
+ghost use Rattle.inversion.specs.Inversion.{within, inversionBy, answerOf};
 
 pub enum Hint {
     Nothing,
@@ -46,6 +46,13 @@ pub struct Lead {
     pub again: u64,
 }
 
+// The test by which a hint's run is taken.
+pub fn within(end: End, tolerance: f64) -> bool
+    ensures { λ r. ⌜ r ≡ within tolerance end ⌝ }
+{
+    end.at.distance <= tolerance
+}
+
 // Unless the run from the hint ends within the tolerance, the grid is explored.
 pub fn invert_nurbs(
     accepted: Accepted,
@@ -74,7 +81,7 @@ pub fn invert_nurbs(
         Outcome::Refused(taken) => Answer::Refused(taken),
         Outcome::Ended(end, taken) => {
             let choice = Choice { end, origin: 0 };
-            if end.at.distance <= tolerance {
+            if within(end, tolerance) {
                 return Answer::Chosen(choice, taken);
             }
             let lead = Lead {

@@ -4,7 +4,7 @@ use mathlib.Core.Bool.{Bool, true, false, and-eq-true-iff}
 use Prim.Native.Nat.{ℕ, _≤_}
 use native.Mathlib.Omega.{arith}
 use lib.Dec.{leb}
-use lib.Ieee.{Float, le}
+use lib.Ieee.{Float}
 use borrow.Author.Tests.{leb-true, leb-false}
 use Rattle.vector3.specs.declared.Vector3.{Vector3}
 use Rattle.vector3.specs.Laws.{Finite, vector-finite}
@@ -23,7 +23,7 @@ use Rattle.newton.specs.EndLaws.{Meant, end-means}
 use Rattle.inversion.specs.declared.Hint.{Hint}
 use Rattle.inversion.specs.declared.Hint.the-variants.{Nothing, At}
 use Rattle.inversion.specs.declared.Choice.{Choice}
-use Rattle.inversion.specs.Inversion.{ofHint, inversionBy}
+use Rattle.inversion.specs.Inversion.{ofHint, within, inversionBy}
 use Rattle.inversion.specs.Nearest.{First}
 use Rattle.inversion.specs.InversionLaws.{far, candidates, taken, among, hint-taken, pair-held}
 use Rattle.inversion.specs.GridLaws.{starts-six}
@@ -36,6 +36,12 @@ use Rattle.chart.specs.declared.Placing.the-variants.{Pair}
 use Rattle.chart.specs.Chart.{soundSearch, turnedTo, turned}
 use Rattle.inverter.specs.Inverter.{placed}
 use Rattle.inverter.specs.PlacingLaws.{stepsOf, resultOf, answer-enough, answer-short}
+
+-- the shift moves the pair and leaves its distance
+pub same-distance : (h : Hint) (u v : Period) (p : Iterate) → turnedTo h u v p .distance ≡ p .distance
+unfolding turnedTo
+same-distance Nothing u v p = refl
+same-distance (At a b) u v p = refl
 
 module _ (s : Surface) (ok : refusalOfSurface s ≡ 0) (mark : Vector3) (terms : Terms) (sound : soundSearch mark terms ≡ true) where
   finite : Finite mark
@@ -57,7 +63,7 @@ module _ (s : Surface) (ok : refusalOfSurface s ≡ 0) (mark : Vector3) (terms :
 
   pub data Source (c : Choice) (n : ℕ) : Type 0 where
     -- "the hint run's end where that lies within tolerance"
-    hint-end : {u v : Float} → terms .hint ≡ At u v → runFrom u v ≡ answered (c .end) n → c .origin ≡ 0 → le (c .end .at .distance) (terms .tolerance) ≡ true → Source c n
+    hint-end : {u v : Float} → terms .hint ≡ At u v → runFrom u v ≡ answered (c .end) n → c .origin ≡ 0 → within (terms .tolerance) (c .end) ≡ true → Source c n
     otherwise : Otherwise c n → Source c n
 
   -- a pair that the call answers with the units it took
@@ -80,11 +86,6 @@ module _ (s : Surface) (ok : refusalOfSurface s ≡ 0) (mark : Vector3) (terms :
     -- "Before that shift, axes without the periodic flag stay in their knot domain."
     pub inside-u : InDomain (s .shape .u .periodic) (axisU s) (before .end .at .u)
     pub inside-v : InDomain (s .shape .v .periodic) (axisV s) (before .end .at .v)
-
-  same-distance : (h : Hint) (u v : Period) (p : Iterate) → turnedTo h u v p .distance ≡ p .distance
-  unfolding turnedTo
-  same-distance Nothing u v p = refl
-  same-distance (At a b) u v p = refl
 
   source-of : (hint : Hint) → terms .hint ≡ hint → {c : Choice} {n : ℕ} → Paired s (scaleOf s) mark (terms .tolerance) hint c n → Source c n
   source-of hint h (taken p t) = hint-end h p refl t
@@ -131,7 +132,7 @@ module _ (s : Surface) (ok : refusalOfSurface s ≡ 0) (mark : Vector3) (terms :
       by false l = absurd (let g = rw (answer-short terms s ok mark sound budget (leb-false _ _ l)) at h in let z : _≡_ {A = ℕ} 0 1 = cc in omega arith)
 
   -- and where the hint run's end lies within tolerance, the call answers that end, shifted, for the evaluations of that run
-  pub placed-hint : (u v : Float) → terms .hint ≡ At u v → (e : End) (n : ℕ) → runFrom u v ≡ answered e n → le (e .at .distance) (terms .tolerance) ≡ true
+  pub placed-hint : (u v : Float) → terms .hint ≡ At u v → (e : End) (n : ℕ) → runFrom u v ≡ answered e n → within (terms .tolerance) e ≡ true
       → (budget : ℕ) → n ≤ budget → placed s mark terms budget ≡ Pair (turned terms (ofHint e)) n
   unfolding inversionBy
   placed-hint u v h e n r t budget l =

@@ -77,7 +77,7 @@ returns : run valley (record { x = 0·; y = 0·; z = neg 1· }) parabola ⅛· 0
 unfolding compute at valley parabola ⅛·
 returns = refl
 
--- over 0 to 1, from (1/2, 0) towards the mark (0, 0, 1/2): each step leads nearer, and none is small
+-- over 0 to 1, from (1/2, 0) towards the mark (0, 0, 1/2): no step leads further, and none is small
 goes-on : (p : Iterate) × (run unit (record { x = 0·; y = 0·; z = ½· }) parabola ½· 0· ≡ answered (record { at = p; ending = AllRounds }) 33)
 unfolding compute unit at parabola
 goes-on = (_, refl)

@@ -1,4 +1,5 @@
 -- The hint's run, and what is explored after it; with no hint the grid is explored at once.
+use mathlib.Core.Path.{sym, _∙_}
 use borrow.Author.Needs.{needs}
 use Rattle.surface.specs.Surface.{Surface, surface}
 use Rattle.inversion.proofs.ExploreSteps.{unhinted, hint-spent, hint-refused, hint-fits, hint-close, hint-far}
@@ -18,7 +19,7 @@ returns-2 : tie.Need-returns-2
 returns-2 c =
     let end = c .before .before .before in
     let to = end .before .before in
-    hint-close (of to) _ _ _ _ _ _ (start to .pre .0 .domain) _ _ (to .before .before .hint .given .1) (to .run .ensures) _ _ (end .end .given .1) (c .if1 .taken)
+    hint-close (of to) _ _ _ _ _ _ (start to .pre .0 .domain) _ _ (to .before .before .hint .given .1) (to .run .ensures) _ _ (end .end .given .1) (sym (c .before .within .ensures) ∙ c .if1 .taken)
 
 explore-requires-2 : tie.Need-explore-requires-2
 explore-requires-2 c κs =
@@ -41,7 +42,7 @@ returns-5 c =
     let at = c .before in
     let end = at .before .before .before in
     let to = end .before .before in
-    hint-far (of to) _ _ _ _ _ _ (start to .pre .0 .domain) _ _ (to .before .before .hint .given .1) (to .run .ensures) _ _ (end .end .given .1) (at .if1 .left) (c .explore2 .ensures)
+    hint-far (of to) _ _ _ _ _ _ (start to .pre .0 .domain) _ _ (to .before .before .hint .given .1) (to .run .ensures) _ _ (end .end .given .1) (sym (at .before .within .ensures) ∙ at .if1 .left) (c .explore2 .ensures)
 
 pub invert-nurbs-spec : {M : Type 1} → statement M
 invert-nurbs-spec =
@@ -55,6 +56,7 @@ invert-nurbs-spec =
     (λ c. search needs)
     (λ c. search needs)
     (λ c. search needs)
+    (λ c κs. search needs)
     returns-2
     explore-requires-2
     returns-3
