@@ -18,7 +18,7 @@ struct Kind {
     draw: fn(&mut Random) -> Vec<Case>,
 }
 
-const KINDS: [Kind; 10] = [
+const KINDS: [Kind; 11] = [
     Kind {
         name: "sets",
         draw: |r| SETS.iter().flat_map(|set| (set.cases)(r)).collect(),
@@ -58,6 +58,10 @@ const KINDS: [Kind; 10] = [
     Kind {
         name: "brinks",
         draw: generate::brinks,
+    },
+    Kind {
+        name: "leads",
+        draw: generate::leads,
     },
 ];
 

@@ -1,5 +1,5 @@
 //! Stored answers: records of 64-bit words, inputs first, then the answer.
-use crate::calls::{self, Jet, Placed, Search, Shell, Spent, Surface};
+use crate::calls::{self, Jet, Search, Shell, Spent, Surface};
 use crate::generate::{Case, Inversion, Random, Row, Set};
 use crate::job;
 use crate::refusals::Refusal;
@@ -190,10 +190,10 @@ fn invert(words: &mut Words, inversion: &Inversion) {
     words.search(search);
     words.word(*budget);
     let spent = calls::invert(surface, *mark, search, *budget);
-    words.spent(spent, |words, Placed { pair, end, origin }| {
-        words.floats(pair);
-        words.word(u64::from(*end));
-        words.word(u64::from(*origin));
+    words.spent(spent, |words, placed| {
+        words.floats(&placed.pair);
+        words.word(u64::from(placed.end));
+        words.word(u64::from(placed.origin));
     });
 }
 

@@ -38,7 +38,8 @@ pub struct Spent<T> {
     pub left: u64,
 }
 
-/// An inversion's answer: the pair, and of the run that found it the end and the origin.
+/// An inversion's answer: the pair, and of the run that found it the end, the origin and the
+/// distance.
 #[derive(Clone, Copy, Debug, PartialEq)]
 pub struct Placed {
     pub pair: Pair,
@@ -47,6 +48,8 @@ pub struct Placed {
     pub end: u8,
     /// 0 for the hint, or the start's place, 1 to 6.
     pub origin: u8,
+    /// That of the run's end from the mark, before any shift by periods.
+    pub distance: f64,
 }
 
 /// Point and first derivatives.
@@ -111,8 +114,13 @@ impl Shell {
             "the copy answers {copied:?} and not {published:?}"
         );
         let placed = |pair| {
-            let ends::Taken { end, origin } = taken.expect("an answer is some run's");
-            Placed { pair, end, origin }
+            let taken = taken.expect("an answer is some run's");
+            Placed {
+                pair,
+                end: taken.end,
+                origin: taken.origin,
+                distance: taken.distance,
+            }
         };
         Spent {
             answer: published.answer.map(placed),

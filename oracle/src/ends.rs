@@ -1,5 +1,6 @@
 //! What the lines inserted into the second copy of `pcurve.rs` record: how a run of `newton`
-//! ended, and which run `invert_nurbs` took. `inserted/pcurve.txt` says where each line stands.
+//! ended, and which run `invert_nurbs` took, at what distance. `inserted/pcurve.txt` says where
+//! each line stands.
 use std::cell::Cell;
 
 /// The end of a run whose rounds are all gone; the lines hold the other ends.
@@ -20,6 +21,7 @@ struct Runs {
 pub(crate) struct Taken {
     pub end: u8,
     pub origin: u8,
+    pub distance: f64,
 }
 
 const NONE: Runs = Runs {
@@ -64,16 +66,19 @@ pub(crate) fn starts() {
 }
 
 /// Where the run of a start is the best so far.
-pub(crate) fn start() {
-    change(|runs| take(runs, runs.made));
+pub(crate) fn start(distance: f64) {
+    change(|runs| take(runs, runs.made, distance));
 }
 
 /// Where the run of the hint is accepted, or is the best of all.
-pub(crate) fn hint() {
-    change(|runs| take(runs, HINT));
+pub(crate) fn hint(distance: f64) {
+    change(|runs| take(runs, HINT, distance));
 }
 
-fn take(runs: &mut Runs, origin: u8) {
-    let end = runs.end;
-    runs.taken = Some(Taken { end, origin });
+fn take(runs: &mut Runs, origin: u8, distance: f64) {
+    runs.taken = Some(Taken {
+        end: runs.end,
+        origin,
+        distance,
+    });
 }

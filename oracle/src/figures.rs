@@ -1,11 +1,12 @@
 //! The figures of document 01 and of TRAPS.md that the source can answer.
 use crate::calls::{
-    Pair, Point, Search, Surface, derivative, evaluate, invert, nurbs_singular, price,
+    Pair, Placed, Point, Search, Surface, derivative, evaluate, invert, nurbs_singular, price,
 };
 use crate::generate::ends::{Known, known};
+use crate::generate::lead;
 use crate::job::{Job, print};
 use crate::refusals::Refusal;
-use crate::row::row;
+use crate::row::{row, walk};
 use crate::small::{Axis, KnotSide, basis, knots, nearest, snap, span, weights, wrap};
 use std::fmt::Debug;
 
@@ -43,6 +44,7 @@ pub fn all() -> Vec<Figure> {
         rows_and_jobs(),
         traps(),
         ends(),
+        rows(),
     ];
     parts.into_iter().flatten().collect()
 }
@@ -438,7 +440,7 @@ fn rows_and_jobs() -> Vec<Figure> {
         place(&FREE, &mut [7.; 4], &mut short_ends).refused,
     ];
     let printout = "marks 2\n3fd0000000000000 3fe0000000000000 908 0\n\
-                    3fd0000000000000 3fe0000000000000 814 0\n";
+                    3fd0000000000000 3fe0000000000000 816 0\n";
     vec![
         figure("the job of 01", print(&job.write()), printout.to_string()),
         figure(
@@ -449,7 +451,7 @@ fn rows_and_jobs() -> Vec<Figure> {
         figure(
             "the same marks as a row, one number and one byte to spare",
             (answers, ends, ended.refused, ended.left),
-            ([0.25, 0.5, 0.25, 0.5, 7.], [0, 1, 0, 0, 7], None, 814),
+            ([0.25, 0.5, 0.25, 0.5, 7.], [0, 1, 0, 1, 7], None, 816),
         ),
         figure(
             "a period of 2^-1074 shifts the first answer to infinity",
@@ -545,4 +547,20 @@ fn ends() -> Vec<Figure> {
         )
     };
     known().into_iter().map(figure_of).collect()
+}
+
+/// Pairs written, price and refusal.
+fn rows() -> Vec<Figure> {
+    let figure_of = |known: lead::Known| {
+        let mut pairs = Vec::new();
+        let marks = known.marks.as_flattened();
+        let placed = |placed: Placed, _| pairs.push(placed.pair);
+        let ended = walk(&known.surface, marks, &known.search, u64::MAX, placed);
+        figure(
+            known.what,
+            (pairs, u64::MAX - ended.left, ended.refused),
+            (known.pairs, known.price, known.refused),
+        )
+    };
+    lead::known().into_iter().map(figure_of).collect()
 }

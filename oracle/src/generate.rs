@@ -4,6 +4,7 @@ mod brink;
 mod cases;
 pub(crate) mod ends;
 mod jobs;
+pub(crate) mod lead;
 mod random;
 mod surfaces;
 mod traps;
@@ -14,6 +15,7 @@ use crate::small::{Axis, KnotSide};
 pub use brink::brinks;
 pub use cases::{derivative, evaluate, inversion, plane, row, singular, small_inversion};
 pub use jobs::job;
+pub use lead::leads;
 pub use random::Random;
 
 /// An input of one call.
@@ -66,8 +68,9 @@ pub struct Set {
     pub cases: fn(&mut Random) -> Vec<Case>,
 }
 
-/// The sets; the cases that TRAPS.md lists come first in each, those at the brink of a limit
-/// last, from a stream apart, so that what is drawn after them stays as it is.
+/// The sets; the cases that TRAPS.md lists come first in each. Those at the brink of a limit and
+/// those of marks that lead come last, each from a stream of its own, so that what is drawn after
+/// them stays as it is.
 pub const SETS: [Set; 6] = [
     Set {
         name: "spline",
@@ -101,10 +104,18 @@ pub const SETS: [Set; 6] = [
     },
     Set {
         name: "row",
-        cases: |r| [traps::row(), cases::rows(r), brink::rows(&mut r.apart())].concat(),
+        cases: |r| {
+            [
+                traps::row(),
+                cases::rows(r),
+                brink::rows(&mut r.apart()),
+                lead::rows(&mut r.aside()),
+            ]
+            .concat()
+        },
     },
     Set {
         name: "job",
-        cases: |r| [traps::job(), jobs::jobs(r)].concat(),
+        cases: |r| [traps::job(), jobs::jobs(r), lead::jobs(&mut r.aside())].concat(),
     },
 ];

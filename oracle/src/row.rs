@@ -1,4 +1,5 @@
-//! A row of marks on one surface, added by document 01.
+//! A row of marks on one surface, added by document 01: an answer within the tolerance is the
+//! hint of the next mark, and after any other the next has none.
 use crate::calls::{Pair, Placed, Point, Search, Shell, Spent, Surface};
 use crate::refusals::{self, Refusal};
 
@@ -44,12 +45,13 @@ pub fn walk(
 ) -> Ended {
     let by = By {
         invert: Shell::invert,
-        pair: |placed| placed.pair,
+        hint: |placed, tolerance| (placed.distance <= tolerance).then_some(placed.pair),
     };
     by.walk(surface, marks, search, budget, placed)
 }
 
-/// The pairs of a row, by the source as published and nothing else.
+/// The pairs of a row whose answers are all within the tolerance, by the source as published
+/// and nothing else: it tells no distance, so that every pair is the hint of the next mark.
 pub fn pairs(
     surface: &Surface,
     marks: &[f64],
@@ -59,15 +61,15 @@ pub fn pairs(
 ) -> Ended {
     let by = By {
         invert: Shell::pair,
-        pair: |pair| *pair,
+        hint: |pair, _| Some(*pair),
     };
     by.walk(surface, marks, search, budget, placed)
 }
 
-/// How a mark is placed, and the pair that the answer holds.
+/// How a mark is placed, and the hint that its answer, with the tolerance, is to the next.
 struct By<T> {
     invert: fn(&Shell, Point, &Search, u64) -> Spent<T>,
-    pair: fn(&T) -> Pair,
+    hint: fn(&T, f64) -> Option<Pair>,
 }
 
 impl<T> By<T> {
@@ -88,7 +90,7 @@ impl<T> By<T> {
                 let answer = self
                     .place(&shell, *mark, &search, &mut left)
                     .map_err(|refusal| (refusal, index))?;
-                search.hint = Some((self.pair)(&answer));
+                search.hint = (self.hint)(&answer, search.tolerance);
                 placed(answer, left);
             }
             Ok(())

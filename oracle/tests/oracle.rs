@@ -1,12 +1,13 @@
 use oracle::answers::{KINDS, records};
-use oracle::calls::{Placed, Shell, Surface, invert, price};
+use oracle::calls::{Placed, Point, Search, Shell, Surface, invert, price};
 use oracle::figures;
-use oracle::generate::{Case, Random, Row, SETS, brinks, inversion, row};
+use oracle::generate::{Case, Random, Row, SETS, brinks, inversion, leads, row};
 use oracle::job::{Job, MOST_BYTES, print};
 use oracle::misses::{kinds, measure};
 use oracle::refusals::Refusal;
 use oracle::replay::differing;
-use oracle::row::{pairs, walk};
+use oracle::row::{Ended, pairs, walk};
+use oracle::small::distance;
 use std::collections::{BTreeMap, BTreeSet};
 
 const SEED: u64 = 20_261_115;
@@ -40,7 +41,7 @@ fn job() -> Vec<u8> {
 #[test]
 fn job_prints_byte_for_byte() {
     let printout = "marks 2\n3fd0000000000000 3fe0000000000000 908 0\n\
-                    3fd0000000000000 3fe0000000000000 814 0\n";
+                    3fd0000000000000 3fe0000000000000 816 0\n";
     assert_eq!(print(&job()), printout);
 }
 
@@ -111,12 +112,79 @@ fn price_is_the_least_budget_that_answers() {
     }
 }
 
-/// A row is its marks placed one by one, and touches nothing but their pairs and ends.
+/// The distance of the chosen run's end by the source as published: without periods that end is
+/// the pair.
+fn reached(shell: &Shell, mark: Point, search: &Search) -> f64 {
+    let free = Search {
+        periods: [None; 2],
+        ..*search
+    };
+    let end = shell.pair(mark, &free, u64::MAX).answer;
+    let point = end.and_then(|end| shell.evaluate(end));
+    distance(point.expect("a run ends on the surface").point, mark)
+}
+
+#[test]
+fn distances_are_those_of_the_ends_before_the_shift() {
+    let mut random = Random::new(5);
+    for _ in 0..3000 {
+        let case = inversion(&mut random);
+        let spent = invert(&case.surface, case.mark, &case.search, case.budget);
+        if let (Ok(placed), Ok(shell)) = (spent.answer, Shell::new(&case.surface)) {
+            let reached = reached(&shell, case.mark, &case.search);
+            assert_eq!(placed.distance.to_bits(), reached.to_bits());
+        }
+    }
+}
+
+fn as_row(case: Case) -> Option<Row> {
+    match case {
+        Case::Row(row) => Some(row),
+        _ => None,
+    }
+}
+
+/// Whether marks and buffers pass check 11.
+fn fits(case: &Row) -> bool {
+    let room = case.answers.len().min(case.ends.len());
+    case.marks.len().is_multiple_of(3) && room >= case.marks.len() / 3 * 2
+}
+
+/// Rows of any kind, and rows of marks that lead or are lost.
+fn drawn_rows(seed: u64) -> Vec<Row> {
+    let mut random = Random::new(seed);
+    let mut rows: Vec<Row> = (0..1000).map(|_| row(&mut random)).collect();
+    let leading = (0..500).flat_map(|_| leads(&mut random));
+    rows.extend(leading.filter_map(as_row));
+    rows
+}
+
+/// A row's marks placed one by one: an end within the tolerance makes its answer the next hint.
+fn chain(case: &Row, shell: &Shell, answers: &mut [f64], ends: &mut [u8]) -> Ended {
+    let (mut search, mut left) = (case.search, case.budget);
+    for (index, mark) in case.marks.as_chunks().0.iter().enumerate() {
+        let spent = invert(&case.surface, *mark, &search, left);
+        left = spent.left;
+        let placed = match spent.answer {
+            Ok(placed) => placed,
+            Err(refusal) => {
+                let refused = Some((refusal, index));
+                return Ended { refused, left };
+            }
+        };
+        answers[2 * index..][..2].copy_from_slice(&placed.pair);
+        ends[2 * index..][..2].copy_from_slice(&[placed.end, placed.origin]);
+        let leads = reached(shell, *mark, &search) <= search.tolerance;
+        search.hint = leads.then_some(placed.pair);
+    }
+    let refused = None;
+    Ended { refused, left }
+}
+
+/// A row is such a chain, and touches nothing but its pairs and ends.
 #[test]
 fn rows_are_chains_of_inversions() {
-    let mut random = Random::new(2);
-    for _ in 0..1000 {
-        let case = row(&mut random);
+    for case in drawn_rows(2) {
         let (mut answers, mut ends) = (case.answers.clone(), case.ends.clone());
         let ended = oracle::row::row(
             &case.surface,
@@ -126,46 +194,28 @@ fn rows_are_chains_of_inversions() {
             &mut answers,
             &mut ends,
         );
-        let sound = Shell::new(&case.surface).is_ok() && case.search.check().is_ok();
-        let room = case.answers.len().min(case.ends.len());
-        let fits = case.marks.len().is_multiple_of(3) && room >= case.marks.len() / 3 * 2;
-        let (mut search, mut left) = (case.search, case.budget);
         let (mut expected, mut runs) = (case.answers.clone(), case.ends.clone());
-        let mut refused = None;
-        for (index, mark) in case.marks.as_chunks::<3>().0.iter().enumerate() {
-            if !fits || !sound {
-                break;
+        match Shell::new(&case.surface) {
+            Ok(shell) if fits(&case) && case.search.check().is_ok() => {
+                assert_eq!(ended, chain(&case, &shell, &mut expected, &mut runs));
             }
-            let spent = invert(&case.surface, *mark, &search, left);
-            left = spent.left;
-            let Ok(Placed { pair, end, origin }) = spent.answer else {
-                refused = spent.answer.err().map(|refusal| (refusal, index));
-                break;
-            };
-            expected[2 * index..][..2].copy_from_slice(&pair);
-            runs[2 * index..][..2].copy_from_slice(&[end, origin]);
-            search.hint = Some(pair);
+            _ => {
+                let (refusal, index) = ended.refused.expect("a fault is refused");
+                assert_eq!((refusal != Refusal::Row, index), (fits(&case), 0));
+                assert_eq!(ended.left, case.budget);
+            }
         }
         let bits = |numbers: &[f64]| numbers.iter().map(|x| x.to_bits()).collect::<Vec<_>>();
         assert_eq!(bits(&answers), bits(&expected));
         assert_eq!(ends, runs);
-        assert_eq!(ended.left, left);
-        if !fits {
-            assert_eq!(ended.refused, Some((Refusal::Row, 0)));
-        } else if sound {
-            assert_eq!(ended.refused, refused);
-        } else {
-            assert!(ended.refused.is_some_and(|(_, index)| index == 0));
-        }
     }
 }
 
-/// A row's pairs are those of the source as published alone.
+/// A row's pairs are those of the source as published alone, up to the first mark that is lost.
 #[test]
 fn pairs_of_rows_are_the_published_ones() {
-    let mut random = Random::new(4);
-    for _ in 0..1000 {
-        let case = row(&mut random);
+    let mut lost_nowhere = 0;
+    for case in drawn_rows(4) {
         let (mut placed, mut published) = (Vec::new(), Vec::new());
         let Row {
             surface,
@@ -175,17 +225,26 @@ fn pairs_of_rows_are_the_published_ones() {
             ..
         } = &case;
         let bits = |pair: [f64; 2]| pair.map(f64::to_bits);
+        let mut led = 0;
         let ended = [
             walk(surface, marks, search, *budget, |answer, left| {
+                let leads = answer.distance <= search.tolerance;
+                led += usize::from(leads && led == placed.len());
                 placed.push((bits(answer.pair), left));
             }),
             pairs(surface, marks, search, *budget, |pair, left| {
                 published.push((bits(pair), left));
             }),
         ];
-        assert_eq!(placed, published);
-        assert_eq!(ended[0], ended[1]);
+        if led == placed.len() {
+            assert_eq!(placed, published);
+            assert_eq!(ended[0], ended[1]);
+            lost_nowhere += 1;
+        } else {
+            assert_eq!(placed[..=led], published[..=led]);
+        }
     }
+    assert!(lost_nowhere >= 300, "{lost_nowhere}");
 }
 
 /// Largest knot, largest coordinate, narrowest span, least weight over the largest.
@@ -285,6 +344,108 @@ fn inversions_hold_each_end_and_origin() {
     }
     assert!(ends.iter().all(|&count| count >= 20), "{ends:?}");
     assert!(origins.iter().all(|&count| count >= 20), "{origins:?}");
+}
+
+/// A mark that was placed and how the next fared, whose answer or price depends on whether the
+/// first leads it.
+struct Deciding {
+    tolerance: f64,
+    placed: Placed,
+    /// The distance of the pair as written, if it is one of the surface.
+    written: Option<f64>,
+    next: Result<Placed, Refusal>,
+}
+
+impl Deciding {
+    fn leads(&self) -> bool {
+        self.placed.distance <= self.tolerance
+    }
+
+    fn carried_off(&self) -> bool {
+        self.placed.pair.iter().any(|x| x.is_infinite())
+    }
+}
+
+/// The deciding marks of a row.
+fn deciding(case: &Row) -> Vec<Deciding> {
+    let Ok(shell) = Shell::new(&case.surface) else {
+        return Vec::new();
+    };
+    let marks = case.marks.as_chunks().0;
+    let tolerance = case.search.tolerance;
+    let mut found = Vec::new();
+    let mut next = 1;
+    let decide = |placed: Placed, left| {
+        let Some(&mark) = marks.get(next) else { return };
+        let with = |hint| {
+            let search = Search {
+                hint,
+                ..case.search
+            };
+            invert(&case.surface, mark, &search, left)
+        };
+        let (led, alone) = (with(Some(placed.pair)), with(None));
+        let leads = placed.distance <= tolerance;
+        let point = shell.evaluate(placed.pair).map(|jet| jet.point);
+        if led != alone {
+            found.push(Deciding {
+                tolerance,
+                placed,
+                written: point.ok().map(|point| distance(point, marks[next - 1])),
+                next: if leads { led.answer } else { alone.answer },
+            });
+        }
+        next += 1;
+    };
+    walk(
+        &case.surface,
+        &case.marks,
+        &case.search,
+        case.budget,
+        decide,
+    );
+    found
+}
+
+type Is = fn(&Deciding) -> bool;
+
+/// What a deciding mark is in some rows.
+const DECIDING: [(&str, Is); 7] = [
+    ("lost, and the next is placed", |mark| {
+        !mark.leads() && mark.next.is_ok()
+    }),
+    ("at the tolerance", |mark| {
+        mark.placed.distance == mark.tolerance
+    }),
+    ("a float within it", |mark| {
+        mark.placed.distance.next_up() == mark.tolerance
+    }),
+    ("a float beyond it", |mark| {
+        mark.placed.distance == mark.tolerance.next_up()
+    }),
+    ("leads, and is written beyond it", |mark| {
+        mark.leads() && mark.written.is_none_or(|far| far > mark.tolerance)
+    }),
+    ("leads, and is carried to infinity", |mark| {
+        mark.leads() && mark.carried_off() && mark.next == Err(Refusal::Argument)
+    }),
+    ("lost, and is carried to infinity", |mark| {
+        !mark.leads() && mark.carried_off() && mark.next.is_ok()
+    }),
+];
+
+/// Each kind of deciding mark in 20 rows at least of the set of that name.
+#[test]
+fn rows_hold_each_kind_of_deciding_mark() {
+    let set = SETS.iter().find(|set| set.name == "row");
+    let cases = (set.expect("there is such a set").cases)(&mut Random::new(SEED));
+    let rows = cases.into_iter().filter_map(as_row).filter(fits);
+    let rows: Vec<Vec<Deciding>> = rows.map(|row| deciding(&row)).collect();
+    for (name, is) in DECIDING {
+        let count = rows.iter().filter(|row| row.iter().any(is)).count();
+        println!("{name}: {count}");
+        assert!(count >= 20, "{name}: {count}");
+    }
 }
 
 /// What pairs are held to by the command `ends` is never further than they are.

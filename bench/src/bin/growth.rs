@@ -66,7 +66,7 @@ fn first(surface: &Surface) -> f64 {
     repeated(&marks, |mark: &Point| placed(&lent, *mark, &none)[0])
 }
 
-/// Every mark off the surface by more than the tolerance, so that no hint ends a search: the whole
+/// Every mark off the surface by more than the tolerance, so that none leads the next: the whole
 /// grid is evaluated for each. The more controls, the finer the grid and the fewer marks fit.
 fn job(degree: usize) {
     let work = |n: &usize| {

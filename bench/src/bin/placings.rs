@@ -7,7 +7,7 @@ mod sisl;
 
 use bench::cases::{BEYOND, TOLERANCE, along, built, bumpy, lent, on, placed, scaled, search};
 use bench::{compare, heading};
-use oracle::calls::{Point, Search, Surface};
+use oracle::calls::{Placed, Point, Search, Surface};
 use oracle::row;
 use placing::raw;
 
@@ -84,6 +84,8 @@ fn beside_sisl(name: &str, surface: &Surface) {
 fn rows(name: &str, surface: &Surface) {
     let shell = built(surface);
     let marks: Vec<f64> = along(100).flat_map(|at| on(&shell, at)).collect();
+    let leads = |placed: Placed, _| assert!(placed.distance <= TOLERANCE, "no mark is lost");
+    row::walk(surface, &marks, &search(None), u64::MAX, leads);
     let lent = lent(surface);
     let port = |marks: &Vec<f64>| {
         let (mut budget, mut index, mut answers) = ([u64::MAX], [0], [0.; 200]);

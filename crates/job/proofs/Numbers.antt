@@ -10,7 +10,7 @@ use Rattle.digits.specs.Text.{Put, written}
 use Rattle.domain.specs.declared.Shape.{Shape}
 use Rattle.surface.specs.Surface.{surface}
 use Rattle.row.specs.Row.{rowed}
-use Rattle.row.specs.RowLaws.{Unshifted}
+use Rattle.row_step.specs.StepLaws.{Unshifted}
 use Rattle.job_lines.specs.Lines.{marksLine, refusedLine}
 use Rattle.job_format.specs.declared.Layout.{Layout}
 use Rattle.job_format.specs.declared.Layout.the-variants.{Malformed, WellFormed}

@@ -17,11 +17,12 @@ use Rattle.inversion.specs.declared.Choice.{Choice}
 use Rattle.chart.specs.declared.Terms.{Terms}
 use Rattle.chart.specs.Chart.{soundTerms}
 use Rattle.inverter.specs.PlacingLaws.{refusal-number}
-use Rattle.row.specs.declared.Progress.{Progress}
-use Rattle.row.specs.declared.Stepped.{Stepped}
-use Rattle.row.specs.declared.Stepped.the-variants.{Placed, Refusal}
-use Rattle.row.specs.Row.{Rowed, stepped, refusedAt, andThen, inTurn, unlessRefused, rowed, uOf, vOf, endOf}
-use Rattle.row.specs.RowLaws.{Unshifted, Prints, step-prints}
+use Rattle.row_step.specs.declared.Progress.{Progress}
+use Rattle.row_step.specs.declared.Stepped.{Stepped}
+use Rattle.row_step.specs.declared.Stepped.the-variants.{Placed, Refusal}
+use Rattle.row_step.specs.Step.{stepped}
+use Rattle.row_step.specs.StepLaws.{Unshifted, Prints, step-prints}
+use Rattle.row.specs.Row.{Rowed, refusedAt, andThen, inTurn, unlessRefused, rowed, uOf, vOf, endOf}
 use Rattle.job_lines.specs.Lines.{pairLine, refusedLine}
 use Rattle.job_format.specs.Offsets.{markAt, marksAt}
 use Rattle.job.specs.Printout.{pairLines, lastLine, rowLines}

@@ -2,8 +2,8 @@
 use mathlib.Core.List.{List}
 use Prim.Native.Nat.{ℕ, _+_, _*_, _≤_}
 use Rattle.vector3.specs.declared.Vector3.{Vector3}
-use Rattle.row.specs.declared.Stepped.{Stepped}
-use Rattle.row.specs.declared.Stepped.the-variants.{Placed, Refusal}
+use Rattle.row_step.specs.declared.Stepped.{Stepped}
+use Rattle.row_step.specs.declared.Stepped.the-variants.{Placed, Refusal}
 use Rattle.row.specs.Row.{uOf, vOf, endOf}
 use Rattle.job_lines.specs.Lines.{longestLine, pairLine, refusedLine}
 use Rattle.job_format.specs.Format.{termsSize, markSize}

@@ -14,17 +14,15 @@ use Rattle.surface.specs.Surface.{Surface, orElse, refusalOfSurface, checked}
 use Rattle.surface.specs.SurfaceLaws.{checked-scale}
 use Rattle.inversion.specs.declared.Choice.{Choice}
 use Rattle.chart.specs.declared.Terms.{Terms}
-use Rattle.chart.specs.declared.Placing.{Placing}
-use Rattle.chart.specs.declared.Placing.the-variants as Placing
-use Rattle.chart.specs.Chart.{soundTerms, soundSearch, placedBy, takenOf}
-use Rattle.inverter.specs.Inverter.{onChecked, placed}
-use Rattle.inverter.specs.PlacingLaws.{refusal-number, placed-sound}
-use Rattle.row.specs.declared.Progress.{Progress}
-use Rattle.row.specs.declared.Stepped.{Stepped}
-use Rattle.row.specs.declared.Stepped.the-variants.{Placed, Refusal}
+use Rattle.chart.specs.Chart.{soundTerms}
+use Rattle.inverter.specs.PlacingLaws.{refusal-number}
+use Rattle.row_step.specs.declared.Progress.{Progress}
+use Rattle.row_step.specs.declared.Stepped.{Stepped}
+use Rattle.row_step.specs.declared.Stepped.the-variants.{Placed, Refusal}
+use Rattle.row_step.specs.Step.{stepped}
 use Rattle.row.specs.declared.RowEnd.{RowEnd}
 use Rattle.row.specs.declared.RowEnd.the-variants as RowEnd
-use Rattle.row.specs.Row.{Entry, Rowed, marksOf, ledBy, stepBy, stepped, refusedAt, preceded, andThen, inTurn, unlessRefused, rowed, misfit, rowInto, listed, written, uOf, vOf, endOf, originOf, Left, leaving}
+use Rattle.row.specs.Row.{Entry, Rowed, marksOf, refusedAt, preceded, andThen, inTurn, unlessRefused, rowed, misfit, rowInto, listed, written, uOf, vOf, endOf, originOf, Left, leaving}
 use Rattle.row.specs.Turns.{markAt, fronted}
 
 -- ---- a buffer that takes two of each mark
@@ -166,25 +164,6 @@ module _ (s : Surface) (ms xs : List Float) (bs : List ℕ) (terms : Terms) (bud
     pub sound : t ≡ true → {l : Left} → Leaves (inTurn s 0 (marksOf ms) (record { terms = terms; left = budget })) xs bs l → Leaves tested xs bs l
     unfolding rowed orElse unlessRefused
     sound h l = simp (checked-scale s m k .0, ← e, h) l
-
--- ---- one mark
-
-module _ (s : Surface) (mark : Vector3) (p : Progress) {g : Placing} where
-  module _ {m : Float} (h : checked s ≡ Check.Scale m) (q : g ≡ placedBy s m mark (p .terms) (p .left) (soundSearch mark (p .terms))) where
-    by-checked : g ≡ placed s mark (p .terms) (p .left)
-    unfolding placed onChecked
-    by-checked = q ∙ simp h
-
-    pub took : {n : ℕ} → takenOf g ≡ n → n ≤ p .left
-    took e = omega (arith, ap takenOf by-checked, placed-sound s mark (p .terms) (p .left) .0)
-
-    pub step-refuses : {n t : ℕ} → g ≡ Placing.Refusal n t → Refusal n (p .left - t) ≡ stepped s mark p
-    unfolding stepped stepBy
-    step-refuses e = rw (← by-checked, e)
-
-    pub step-places : {c : Choice} {t : ℕ} → g ≡ Placing.Pair c t → {next : Terms} → next ≡ ledBy (p .terms) c → Placed c (record { terms = next; left = p .left - t }) ≡ stepped s mark p
-    unfolding stepped stepBy
-    step-places e f = rw (← by-checked, e, f)
 
 -- ---- the marks in turn
 

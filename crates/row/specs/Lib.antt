@@ -1,4 +1,4 @@
 pub mod Row
 pub mod Turns
 pub mod RowLaws
-pub mod Compute
+pub mod LeadLaws

@@ -1,5 +1,5 @@
 -- A row of marks on one surface: what it writes of each mark that it places, and how it ends. Definitions only.
-use Prim.Native.Nat.{ℕ, zero, suc, _+_, _-_, _*_, _/_, _%_}
+use Prim.Native.Nat.{ℕ, zero, suc, _+_, _*_, _/_, _%_}
 use mathlib.Core.Bool.{Bool, not, _||_}
 use mathlib.Core.List.{List, [], _∷_, _++_}
 use lib.Dec.{ltb, eqb}
@@ -9,15 +9,12 @@ use Rattle.vector3.specs.declared.Vector3.{Vector3}
 use Rattle.surface.specs.Surface.{Surface, orElse, when, refusalOfSurface}
 use Rattle.newton.specs.Run.{endingNumber}
 use Rattle.inversion.specs.declared.Choice.{Choice}
-use Rattle.inversion.specs.declared.Hint.the-variants.{At}
 use Rattle.chart.specs.declared.Terms.{Terms}
-use Rattle.chart.specs.declared.Placing.{Placing}
-use Rattle.chart.specs.declared.Placing.the-variants as Placing
 use Rattle.chart.specs.Chart.{soundTerms}
-use Rattle.inverter.specs.Inverter.{placed}
-use Rattle.row.specs.declared.Progress.{Progress}
-use Rattle.row.specs.declared.Stepped.{Stepped}
-use Rattle.row.specs.declared.Stepped.the-variants.{Placed, Refusal}
+use Rattle.row_step.specs.declared.Progress.{Progress}
+use Rattle.row_step.specs.declared.Stepped.{Stepped}
+use Rattle.row_step.specs.declared.Stepped.the-variants.{Placed, Refusal}
+use Rattle.row_step.specs.Step.{stepped}
 use Rattle.row.specs.declared.RowEnd.{RowEnd}
 use Rattle.row.specs.declared.RowEnd.the-variants as RowEnd
 
@@ -37,20 +34,6 @@ marksOf [] = []
 marksOf (x ∷ []) = []
 marksOf (x ∷ (y ∷ [])) = []
 marksOf (x ∷ (y ∷ (z ∷ rest))) = record { x = x; y = y; z = z } ∷ marksOf rest
-
--- ---- one mark
-
--- the answer is the next mark's hint
-abbrev pub ledBy : Terms → Choice → Terms
-ledBy t c = record { hint = At (c .end .at .u) (c .end .at .v); tolerance = t .tolerance; u = t .u; v = t .v }
-
--- and the budget serves on
-unfoldable pub stepBy : Progress → Placing → Stepped
-stepBy p (Placing.Pair c taken) = Placed c (record { terms = ledBy (p .terms) c; left = p .left - taken })
-stepBy p (Placing.Refusal number taken) = Refusal number (p .left - taken)
-
-unfoldable pub stepped : Surface → Vector3 → Progress → Stepped
-stepped s mark p = stepBy p (placed s mark (p .terms) (p .left))
 
 -- ---- the marks one after another
 

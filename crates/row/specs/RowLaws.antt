@@ -7,29 +7,21 @@ use native.Mathlib.Omega.{arith}
 use lib.Dec.{ltb, eqb}
 use lib.ListN.{length, drop, length-append, length-drop}
 use lib.Seq.{drop-at}
-use lib.Ieee.{Float, isNan}
+use lib.Ieee.{Float}
 use borrow.Author.Tests.{ltb-false, le-ltb, eqb-true, not-false}
 use Rattle.float64.specs.Order.{neither}
 use Rattle.vector3.specs.declared.Vector3.{Vector3}
 use Rattle.surface.specs.Surface.{Surface}
-use Rattle.surface.specs.SurfaceLaws.{checked-scale}
 use Rattle.newton.specs.declared.Iterate.{Iterate}
 use Rattle.inversion.specs.declared.Choice.{Choice}
-use Rattle.inversion.specs.declared.Hint.{Hint}
-use Rattle.inversion.specs.declared.Hint.the-variants.{Nothing, At}
 use Rattle.inversion.specs.Nearest.{All}
-use Rattle.inversion.specs.SurfaceLaws.{pair-number}
-use Rattle.chart.specs.declared.Period.the-variants.{Free}
 use Rattle.chart.specs.declared.Terms.{Terms}
-use Rattle.chart.specs.declared.Placing.{Placing}
-use Rattle.chart.specs.declared.Placing.the-variants as Placing
-use Rattle.chart.specs.Chart.{shifted, turnedTo}
-use Rattle.inverter.specs.Inverter.{placed}
-use Rattle.inverter.specs.PlacingLaws.{Numbered, placed-sound, placed-by-cases}
-use Rattle.row.specs.declared.Progress.{Progress}
-use Rattle.row.specs.declared.Stepped.{Stepped}
-use Rattle.row.specs.declared.Stepped.the-variants.{Placed, Refusal}
-use Rattle.row.specs.Row.{Entry, Rowed, marksOf, stepBy, stepped, refusedAt, andThen, inTurn, unlessRefused, rowed, misfit, rowInto, listed, written, uOf, vOf, endOf, originOf, leaving, numberOf, indexOf, leftOf}
+use Rattle.row_step.specs.declared.Progress.{Progress}
+use Rattle.row_step.specs.declared.Stepped.{Stepped}
+use Rattle.row_step.specs.declared.Stepped.the-variants.{Placed, Refusal}
+use Rattle.row_step.specs.Step.{stepped}
+use Rattle.row_step.specs.StepLaws.{Leaves, step-leaves, Unshifted, Numbers, Prints, step-prints}
+use Rattle.row.specs.Row.{Entry, Rowed, marksOf, refusedAt, andThen, inTurn, unlessRefused, rowed, misfit, rowInto, listed, written, uOf, vOf, endOf, originOf, leaving, numberOf, indexOf, leftOf}
 
 -- ---- how a row ends
 
@@ -41,16 +33,6 @@ pub record Ends (i n budget : ℕ) (r : Rowed) : Type 0 where
   pub index : (numberOf (r .ended) ≡ 0 → ⊥) → indexOf (r .ended) ≡ i + length (r .pairs)
   pub left : leftOf (r .ended) ≤ budget
 
--- a step leaves no more than there was
-abbrev Leaves : ℕ → Stepped → Type 0
-Leaves budget (Placed c p) = p .left ≤ budget
-Leaves budget (Refusal number left) = (1 ≤ number) × (left ≤ budget)
-
-step-leaves : (p : Progress) (g : Placing) → Numbered g → Leaves (p .left) (stepBy p g)
-unfolding stepBy
-step-leaves p (Placing.Pair c t) h = omega arith
-step-leaves p (Placing.Refusal number t) h = (h, omega arith)
-
 then-ends : (i n budget : ℕ) (rest : Progress → Rowed) → ((p : Progress) → Ends (i + 1) n (p .left) (rest p)) → (g : Stepped) → Leaves budget g → Ends i (suc n) budget (andThen i rest g)
 unfolding andThen numberOf indexOf leftOf
 then-ends i n budget rest more (Refusal number left) h = record { most = omega arith; all = λ z. absurd (omega arith); index = λ z. omega arith; left = h .1 }
@@ -59,11 +41,11 @@ then-ends i n budget rest more (Placed c p) h =
     record { most = omega (arith, m .most); all = λ z. ap suc (m .all z); index = λ z. omega (arith, m .index z); left = omega (arith, m .left) }
 
 inTurn-ends : (s : Surface) (i : ℕ) (marks : List Vector3) (p : Progress) → Ends i (length marks) (p .left) (inTurn s i marks p)
-unfolding inTurn stepped numberOf leftOf
+unfolding inTurn numberOf leftOf
 inTurn-ends s i [] p = record { most = omega arith; all = λ z. refl; index = λ z. absurd (z refl); left = omega arith }
 inTurn-ends s i (mark ∷ marks) p =
     then-ends i (length marks) (p .left) (inTurn s (i + 1) marks) (inTurn-ends s (i + 1) marks) (stepped s mark p)
-    (step-leaves p (placed s mark (p .terms) (p .left)) (placed-sound s mark (p .terms) (p .left) .1))
+    (step-leaves s mark p)
 
 unless-ends : (n number budget : ℕ) (row : ℕ → Rowed) → Ends 0 n budget (row budget) → Ends 0 n budget (unlessRefused number budget row)
 unfolding unlessRefused numberOf indexOf leftOf
@@ -102,14 +84,24 @@ fits-back coordinates numbers bytes f =
     let z : coordinates % 3 ≡ 0 = omega (arith, f .threes) in
     simp (z, le-ltb numbers (2 * (coordinates / 3)) (f .pairs), le-ltb bytes (2 * (coordinates / 3)) (f .ends))
 
+marks-count : (coordinates : List Float) → length (marksOf coordinates) ≡ length coordinates / 3
+unfolding marksOf
+marks-count [] = refl
+marks-count (x ∷ []) = refl
+marks-count (x ∷ (y ∷ [])) = refl
+marks-count (x ∷ (y ∷ (z ∷ rest))) = omega (arith, marks-count rest)
+
 module _ (s : Surface) (coordinates : List Float) (numbers bytes : ℕ) (terms : Terms) (budget : ℕ) where
+  pub misfit-refused : misfit (length coordinates) numbers bytes ≡ true → rowInto s coordinates numbers bytes terms budget ≡ refusedAt 0 11 budget
+  unfolding rowInto unlessRefused
+  misfit-refused h = simp h
+
   -- "11 too": with no mark's index, the budget whole, and nothing written; before any other check
   pub row-misfit : (Fits (length coordinates) numbers bytes → ⊥) → rowInto s coordinates numbers bytes terms budget ≡ refusedAt 0 11 budget
-  unfolding rowInto unlessRefused
   row-misfit f = by (misfit (length coordinates) numbers bytes) refl
     where
       by : (t : Bool) → misfit (length coordinates) numbers bytes ≡ t → rowInto s coordinates numbers bytes terms budget ≡ refusedAt 0 11 budget
-      by true e = simp e
+      by true e = misfit-refused e
       by false e = absurd (f (fits (length coordinates) numbers bytes e))
 
   -- and else it is the row of these marks, whatever the buffers' lengths
@@ -117,12 +109,16 @@ module _ (s : Surface) (coordinates : List Float) (numbers bytes : ℕ) (terms :
   unfolding rowInto unlessRefused
   row-fits f = simp (fits-back (length coordinates) numbers bytes f)
 
-marks-count : (coordinates : List Float) → length (marksOf coordinates) ≡ length coordinates / 3
-unfolding marksOf
-marks-count [] = refl
-marks-count (x ∷ []) = refl
-marks-count (x ∷ (y ∷ [])) = refl
-marks-count (x ∷ (y ∷ (z ∷ rest))) = omega (arith, marks-count rest)
+  -- there is room for every mark placed
+  pub row-room : (2 * length (rowInto s coordinates numbers bytes terms budget .pairs) ≤ numbers) × (2 * length (rowInto s coordinates numbers bytes terms budget .pairs) ≤ bytes)
+  row-room = by (misfit (length coordinates) numbers bytes) refl
+    where
+      by : (t : Bool) → misfit (length coordinates) numbers bytes ≡ t → (2 * length (rowInto s coordinates numbers bytes terms budget .pairs) ≤ numbers) × (2 * length (rowInto s coordinates numbers bytes terms budget .pairs) ≤ bytes)
+      by true h = rw (misfit-refused h) (omega arith, omega arith)
+      by false h =
+          let f = fits (length coordinates) numbers bytes h in
+          let m = row-ends s terms budget coordinates numbers bytes .most in
+          (omega (arith, f .pairs, marks-count coordinates, m), omega (arith, f .ends, marks-count coordinates, m))
 
 module _ {A : Type 0} (first second : Choice → A) where
   listed-count : (ps : List Entry) → length (listed first second ps) ≡ 2 * length ps
@@ -139,63 +135,14 @@ module _ {A : Type 0} (first second : Choice → A) where
   unfolding written
   written-length ps xs h = simp (length-append, length-drop, listed-count) (omega arith)
 
-module _ (s : Surface) (coordinates : List Float) (terms : Terms) (budget : ℕ) where
-  eleven-pairs : (numbers bytes : ℕ) → misfit (length coordinates) numbers bytes ≡ true → rowInto s coordinates numbers bytes terms budget .pairs ≡ []
-  unfolding rowInto unlessRefused
-  eleven-pairs numbers bytes h = simp h
-
-  -- there is room for every mark placed
-  pub row-room : (numbers bytes : ℕ) → (2 * length (rowInto s coordinates numbers bytes terms budget .pairs) ≤ numbers) × (2 * length (rowInto s coordinates numbers bytes terms budget .pairs) ≤ bytes)
-  row-room numbers bytes = by (misfit (length coordinates) numbers bytes) refl
-    where
-      by : (t : Bool) → misfit (length coordinates) numbers bytes ≡ t → (2 * length (rowInto s coordinates numbers bytes terms budget .pairs) ≤ numbers) × (2 * length (rowInto s coordinates numbers bytes terms budget .pairs) ≤ bytes)
-      by true h = rw (eleven-pairs numbers bytes h) (omega arith, omega arith)
-      by false h =
-          let f = fits (length coordinates) numbers bytes h in
-          let m = row-ends s terms budget coordinates numbers bytes .most in
-          (omega (arith, f .pairs, marks-count coordinates, m), omega (arith, f .ends, marks-count coordinates, m))
-
-  -- the buffers keep their lengths
-  pub row-length : (xs : List Float) (bs : List ℕ)
-      → (length (leaving (rowInto s coordinates (length xs) (length bs) terms budget) xs bs .answers) ≡ length xs) × (length (leaving (rowInto s coordinates (length xs) (length bs) terms budget) xs bs .ends) ≡ length bs)
-  row-length xs bs =
-      let r = row-room (length xs) (length bs) in
-      (written-length uOf vOf _ xs (r .0), written-length endOf originOf _ bs (r .1))
+-- the buffers keep their lengths
+pub row-length : (s : Surface) (coordinates : List Float) (terms : Terms) (budget : ℕ) (xs : List Float) (bs : List ℕ)
+    → (length (leaving (rowInto s coordinates (length xs) (length bs) terms budget) xs bs .answers) ≡ length xs) × (length (leaving (rowInto s coordinates (length xs) (length bs) terms budget) xs bs .ends) ≡ length bs)
+row-length s coordinates terms budget xs bs =
+    let r = row-room s coordinates (length xs) (length bs) terms budget in
+    (written-length uOf vOf _ xs (r .0), written-length endOf originOf _ bs (r .1))
 
 -- ---- without periods no pair holds a NaN, so its bits can be printed
-
-abbrev pub Unshifted : Terms → Type 0
-Unshifted t = (t .u ≡ Free) × (t .v ≡ Free)
-
-abbrev pub Numbers : Iterate → Type 0
-Numbers p = (isNan (p .u) ≡ false) × (isNan (p .v) ≡ false)
-
-turned-numbers : (h : Hint) (p : Iterate) → Numbers p → Numbers (turnedTo h Free Free p)
-unfolding turnedTo shifted
-turned-numbers Nothing p k = k
-turned-numbers (At u v) p k = k
-
--- a step's pair, where there is one, and the terms that it hands on
-abbrev pub Prints : Stepped → Type 0
-Prints (Placed c p) = Numbers (c .end .at) × Unshifted (p .terms)
-Prints (Refusal number left) = Unit {0}
-
-module _ (s : Surface) (mark : Vector3) (p : Progress) (free : Unshifted (p .terms)) where
-  abbrev Steps : Placing → Type 0
-  Steps g = Prints (stepBy p g)
-
-  pub step-prints : Prints (stepped s mark p)
-  unfolding stepped stepBy
-  step-prints =
-      placed-by-cases Steps s mark (p .terms) (p .left)
-      (record {
-        unfit = λ n h. tt;
-        seven = tt;
-        eight = tt;
-        nine = λ n l. tt;
-        pair = λ m k c n l w.
-            (rw (free .0, free .1) (turned-numbers (p .terms .hint) (c .end .at) (rw w at (pair-number s m (checked-scale s m k .0) mark (p .terms .hint) (p .terms .tolerance)))), free);
-      })
 
 -- of every pair of a row
 abbrev pub Each : (Iterate → Type 0) → List Entry → Type 0

@@ -5,8 +5,8 @@ use lib.ListN.{drop, getD}
 use lib.Ieee.{Float, nan}
 use Rattle.vector3.specs.declared.Vector3.{Vector3}
 use Rattle.inversion.specs.declared.Choice.{Choice}
-use Rattle.row.specs.declared.Stepped.{Stepped}
-use Rattle.row.specs.declared.Stepped.the-variants.{Placed, Refusal}
+use Rattle.row_step.specs.declared.Stepped.{Stepped}
+use Rattle.row_step.specs.declared.Stepped.the-variants.{Placed, Refusal}
 
 abbrev pub markAt : List Float → ℕ → Vector3
 markAt ms i = record { x = getD ms (3 * i) nan; y = getD ms (3 * i + 1) nan; z = getD ms (3 * i + 2) nan }

@@ -1,14 +1,12 @@
-// A row of marks on one surface: each answer is the hint of the next mark, and one budget serves all.
+// A row of marks on one surface: an answer leads to the next mark, and one budget serves all.
 mod marks;
-mod one;
 
 use chart::Terms;
 use chart::sound_terms;
 use domain::Shape;
-use inversion::Choice;
 use marks::misfit;
 use marks::place_marks;
-pub use one::step;
+use row_step::Progress;
 use scaled::Acceptance;
 use scaled::Accepted;
 use scaled::accept;
@@ -18,18 +16,6 @@ ghost use lib.ListN.{length};
 ghost use Rattle.surface.specs.Lent.{surfaceOf, atEntry};
 ghost use Rattle.scaled.specs.Accepted.{Accepts};
 ghost use Rattle.row.specs.Row.{marksOf, misfit, rowed, rowInto, leaving};
-
-// What a row carries from mark to mark: the terms, with the answer before for their hint, and the budget left.
-pub struct Progress {
-    pub terms: Terms,
-    pub left: u64,
-}
-
-// One mark: its answer, and what is carried on; or the number of a refusal and the budget left.
-pub enum Stepped {
-    Placed(Choice, Progress),
-    Refusal(u64, u64),
-}
 
 // Every mark was placed, with the budget left; or the number of a refusal, the index of its mark and the budget left.
 pub enum RowEnd {

@@ -1,9 +1,9 @@
 // The marks of a row, one after another.
-use crate::Progress;
 use crate::RowEnd;
-use crate::Stepped;
-use crate::one::step;
 use newton::ending_number;
+use row_step::Progress;
+use row_step::Stepped;
+use row_step::step;
 use scaled::Accepted;
 use vector3::Vector3;
 ghost use mathlib.Core.Path.{_≡_};
@@ -12,7 +12,8 @@ ghost use Prim.Native.Nat.{_+_, _*_, _≤_};
 ghost use lib.ListN.{length};
 ghost use Rattle.surface.specs.Lent.{surfaceOf, atEntry};
 ghost use Rattle.scaled.specs.Accepted.{Accepts};
-ghost use Rattle.row.specs.Row.{marksOf, misfit, stepped, inTurn, uOf, vOf, endOf, originOf, leaving};
+ghost use Rattle.row_step.specs.Step.{stepped};
+ghost use Rattle.row.specs.Row.{marksOf, misfit, inTurn, uOf, vOf, endOf, originOf, leaving};
 ghost use Rattle.row.specs.Turns.{markAt, fronted};
 
 pub(crate) fn misfit(coordinates: usize, numbers: usize, bytes: usize) -> bool

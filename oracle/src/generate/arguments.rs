@@ -15,12 +15,12 @@ impl Ground {
         Self { surface, shell }
     }
 
-    fn domain(&self) -> [[f64; 2]; 2] {
+    pub fn domain(&self) -> [[f64; 2]; 2] {
         self.shell.as_ref().map_or([[0., 1.]; 2], Shell::domain)
     }
 
     /// The point at a pair, if there is one.
-    fn point(&self, pair: Pair) -> Option<Point> {
+    pub fn point(&self, pair: Pair) -> Option<Point> {
         Some(self.shell.as_ref()?.evaluate(pair).ok()?.point)
     }
 

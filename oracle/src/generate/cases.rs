@@ -239,11 +239,16 @@ pub fn row_on(r: &mut Random, surface: Surface) -> Row {
     if r.percent(60) {
         search.tolerance = r.pick(&[0., 1e-9, 0.01, 0.3, 1., f64::MAX]);
     }
-    let price = row_price(&ground.surface, &marks, &search);
+    row_of(r, ground.surface, marks, search)
+}
+
+/// With buffers and a budget.
+pub fn row_of(r: &mut Random, surface: Surface, marks: Vec<f64>, search: Search) -> Row {
+    let price = row_price(&surface, &marks, &search);
     let answers = buffer(r, marks.len() / 3 * 2);
     let ends = bytes(&mut r.aside(), marks.len() / 3 * 2);
     Row {
-        surface: ground.surface,
+        surface,
         marks,
         search,
         budget: budget(r, price),

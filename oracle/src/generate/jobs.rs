@@ -33,19 +33,25 @@ pub fn job_on(r: &mut Random, surface: Surface) -> Job {
     let ground = Ground::new(surface);
     let mut marks = marks(r, &ground);
     marks.truncate(marks.len() / 3 * 3);
+    let tolerance = if r.percent(5) {
+        r.special()
+    } else {
+        r.pick(&[0., -0., 1e-9, 0.01, 0.3, 0.5, 1., f64::MAX])
+    };
+    job_of(r, ground.surface, marks, tolerance)
+}
+
+/// With a budget.
+pub fn job_of(r: &mut Random, surface: Surface, marks: Vec<f64>, tolerance: f64) -> Job {
     let search = Search {
         hint: None,
-        tolerance: if r.percent(5) {
-            r.special()
-        } else {
-            r.pick(&[0., -0., 1e-9, 0.01, 0.3, 0.5, 1., f64::MAX])
-        },
+        tolerance,
         periods: [None; 2],
     };
-    let price = row_price(&ground.surface, &marks, &search);
+    let price = row_price(&surface, &marks, &search);
     Job {
-        surface: ground.surface,
-        tolerance: search.tolerance,
+        surface,
+        tolerance,
         budget: budget(r, price),
         marks,
     }

@@ -29,7 +29,7 @@ pub fn tolerant(search: Search, tolerance: f64) -> Search {
     }
 }
 
-fn shifted(search: Search, periods: [f64; 2]) -> Search {
+pub fn shifted(search: Search, periods: [f64; 2]) -> Search {
     Search {
         periods: periods.map(Some),
         ..search
@@ -452,23 +452,29 @@ pub fn row() -> Vec<Case> {
         ([marks(2), vec![f64::NAN, 0., 0.], marks(1)].concat(), FREE),
         (vec![0.5; 3 * 64], tolerant(FREE, 0.)),
     ];
+    let square = Surface::square();
+    let at = |(marks, search): &(Vec<f64>, Search)| row_at_price(&square, marks, *search);
+    let mut cases: Vec<Case> = inputs.iter().flat_map(at).collect();
+    cases.extend(row_orders());
+    cases
+}
+
+/// A row at its price and with one unit less, on all four pairs of flags.
+pub fn row_at_price(surface: &Surface, marks: &[f64], search: Search) -> Vec<Case> {
     let mut cases = Vec::new();
-    for (marks, search) in inputs {
-        for surface in flagged(&Surface::square()) {
-            let price = row_price(&surface, &marks, &search);
-            for budget in [price, price.saturating_sub(1)] {
-                cases.push(Case::Row(Row {
-                    surface: surface.clone(),
-                    marks: marks.clone(),
-                    search,
-                    budget,
-                    answers: vec![7.; marks.len() / 3 * 2 + 1],
-                    ends: bytes(marks.len() / 3 * 2 + 1),
-                }));
-            }
+    for surface in flagged(surface) {
+        let price = row_price(&surface, marks, &search);
+        for budget in [price, price.saturating_sub(1)] {
+            cases.push(Case::Row(Row {
+                surface: surface.clone(),
+                marks: marks.to_vec(),
+                search,
+                budget,
+                answers: vec![7.; marks.len() / 3 * 2 + 1],
+                ends: bytes(marks.len() / 3 * 2 + 1),
+            }));
         }
     }
-    cases.extend(row_orders());
     cases
 }
 

@@ -5,7 +5,7 @@ use native.Mathlib.Omega.{arith}
 use lib.ListN.{length}
 use Rattle.surface.specs.Surface.{surface}
 use Rattle.row.specs.Row.{inTurn}
-use Rattle.row.specs.RowLaws.{Unshifted}
+use Rattle.row_step.specs.StepLaws.{Unshifted}
 use Rattle.job_format.specs.Offsets.{marksAt}
 use Rattle.job.specs.Printout.{rowLines}
 use Rattle.job.proofs.Steps.{printable, Rest, put-as, rest-goes, rest-stops, rest-over, linesFrom, lines-begin, lines-over, lines-placed, lines-refused}

@@ -1,31 +1,51 @@
 // One mark of a row, and what it hands on to the next.
-use crate::Progress;
-use crate::Stepped;
 use chart::Placing;
 use chart::Terms;
 use chart::invert_checked;
 use inversion::Choice;
 use inversion::Hint;
+use inversion::within;
 use scaled::Accepted;
 use vector3::Vector3;
 ghost use mathlib.Core.Path.{_≡_};
 ghost use Rattle.surface.specs.Lent.{surfaceOf, atEntry};
 ghost use Rattle.scaled.specs.Accepted.{Accepts};
-ghost use Rattle.row.specs.Row.{ledBy, stepped};
+ghost use Rattle.row_step.specs.Step.{withHint, ledBy, stepped};
 
-// The answer is the next mark's hint.
-fn led_by(terms: Terms, choice: Choice) -> Terms
-    ensures { λ r. ⌜ r ≡ ledBy terms choice ⌝ }
+// What a row carries from mark to mark: the terms, with the next mark's hint, and the budget left.
+pub struct Progress {
+    pub terms: Terms,
+    pub left: u64,
+}
+
+// One mark: its answer, and what is carried on; or the number of a refusal and the budget left.
+pub enum Stepped {
+    Placed(Choice, Progress),
+    Refusal(u64, u64),
+}
+
+fn with_hint(terms: Terms, hint: Hint) -> Terms
+    ensures { λ r. ⌜ r ≡ withHint terms hint ⌝ }
 {
-    let at = choice.end.at;
     let u = terms.u;
     let v = terms.v;
     Terms {
-        hint: Hint::At(at.u, at.v),
+        hint,
         tolerance: terms.tolerance,
         u,
         v,
     }
+}
+
+// A lost mark does not lead the next. The shift by periods, which the answer is after, left the distance as it was.
+fn led_by(terms: Terms, choice: Choice) -> Terms
+    ensures { λ r. ⌜ r ≡ ledBy terms choice ⌝ }
+{
+    let end = choice.end;
+    if within(end, terms.tolerance) {
+        return with_hint(terms, Hint::At(end.at.u, end.at.v));
+    }
+    with_hint(terms, Hint::Nothing)
 }
 
 pub fn step(

@@ -1,10 +1,10 @@
 -- What `invert_checked` says, and the budget that is left.
 use mathlib.Core.Path.{ap}
 use Rattle.chart.specs.Chart.{takenOf}
-use Rattle.row.proofs.Steps.{took, step-refuses, step-places}
+use Rattle.row_step.proofs.Steps.{took, step-refuses, step-places}
 use borrow.Author.Needs.{needs}
-use Rattle.row.proofs.one.step.Statement.{statement}
-use Rattle.row.proofs.one.step.Tie as tie
+use Rattle.row_step.proofs.step.Statement.{statement}
+use Rattle.row_step.proofs.step.Tie as tie
 
 abbrev start : tie.After-invert-checked → tie.Start
 start c = c .before .before .before .before .before .before
