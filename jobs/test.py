@@ -3,6 +3,7 @@
 
 import errno
 import fcntl
+import math
 import os
 import re
 import shutil
@@ -21,7 +22,7 @@ import job
 HERE = Path(__file__).resolve().parent
 SQUARE = (HERE / "square.job").read_bytes()
 TEXT = (HERE / "square.txt").read_text()
-PRINTED = b"marks 2\n3fd0000000000000 3fe0000000000000 908 0\n3fd0000000000000 3fe0000000000000 814 0\n"
+PRINTED = b"marks 2\n3fd0000000000000 3fe0000000000000 908 0\n3fd0000000000000 3fe0000000000000 816 0\n"
 MALFORMED = b"refused 12 at 0\n"
 program = ""
 
@@ -166,6 +167,25 @@ class Program(unittest.TestCase):
         self.assertEqual(said, b"")
         self.assertEqual(len(job.whole_printout(wrote.decode()).pairs), 1202)
 
+    def taken(self, tolerance, heights):
+        """What each mark takes of the budget: marks above one point of the square."""
+        text = TEXT[: TEXT.index("\nmark") + 1].replace("tolerance 0.5", f"tolerance {tolerance!r}")
+        wrote, said = place_bytes(job.pack(text + "".join(f"mark 0.25 0.5 {height}\n" for height in heights)))
+        self.assertEqual(said, "")
+        pairs = job.whole_printout(wrote.decode()).pairs
+        self.assertEqual([(p.u, p.v) for p in pairs], [(0.25, 0.5)] * len(heights))
+        left = [1000, *(p.left for p in pairs)]
+        return [before - after for before, after in zip(left, left[1:])]
+
+    def test_a_close_mark_leads_the_next(self):
+        self.assertEqual(self.taken(1.0, [0.75, 0.75]), [92, 1])
+        self.assertEqual(self.taken(0.75, [0.75, 0.75]), [92, 1])
+
+    def test_a_lost_mark_does_not_lead_the_next(self):
+        self.assertEqual(self.taken(0.5, [0.75, 0.75]), [92, 92])
+        self.assertEqual(self.taken(math.nextafter(0.75, 0), [0.75, 0.75]), [92, 92])
+        self.assertEqual(self.taken(0.5, [0, 0.75, 0, 0]), [92, 94, 92, 1])
+
     def test_an_argument_asks_for_the_version(self):
         wrote, said = place(subprocess.DEVNULL, ["--version"])
         cargo = (HERE.parent / "bindings" / "rust" / "Cargo.toml").read_text()
@@ -261,24 +281,24 @@ class Printouts(unittest.TestCase):
         self.assertEqual(tuple(re.findall(r'case PLACING_END_\w+:\s+return "(.*)";', header)), job.ENDS)
 
     def test_cut_before_the_digit(self):
-        front = PRINTED.decode().removesuffix("814 0\n")
-        for rest in ("", "8", "814", "814 ", "814 0", "\n", "8\n", "814\n", "814 \n"):
+        front = PRINTED.decode().removesuffix("816 0\n")
+        for rest in ("", "8", "816", "816 ", "816 0", "\n", "8\n", "816\n", "816 \n"):
             self.assertRaises(job.Malformed, job.whole_printout, front + rest)
-        self.assertEqual(len(job.whole_printout(front + "814 0\n").pairs), 2)
+        self.assertEqual(len(job.whole_printout(front + "816 0\n").pairs), 2)
 
     def test_the_earlier_form_is_told(self):
         earlier = PRINTED.replace(b" 0\n", b"\n")
         ran = run_job("read", text=earlier)
         self.assertEqual((ran.returncode, ran.stdout), (1, b""))
         self.assertIn(b"not whole: `3fd0000000000000 3fe0000000000000 908` does not say how its run ended", ran.stderr)
-        mixed = PRINTED.replace(b"814 0\n", b"814\n")
-        self.assertIn(b"814` does not say how its run ended", run_job("read", text=mixed).stderr)
+        mixed = PRINTED.replace(b"816 0\n", b"816\n")
+        self.assertIn(b"816` does not say how its run ended", run_job("read", text=mixed).stderr)
 
     def test_status(self):
         for text, status in ((PRINTED, 0), (MALFORMED, 3), (b"marks 1\nrefused 8 at 0\n", 3), (PRINTED[:-2], 1), (b"", 1)):
             ran = run_job("read", text=text)
             self.assertEqual((ran.returncode, bool(ran.stdout), bool(ran.stderr)), (status, status != 1, status == 1))
-        self.assertIn(b"u 0.25 v 0.5 left 814 end unchanged\n", run_job("read", text=PRINTED).stdout)
+        self.assertIn(b"u 0.25 v 0.5 left 816 end unchanged\n", run_job("read", text=PRINTED).stdout)
 
 
 class Distances(unittest.TestCase):

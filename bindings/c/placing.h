@@ -158,11 +158,14 @@ uint64_t placing_invert(PLACING_SURFACE_ARGUMENTS, double x, double y, double z,
                         uint8_t *ended, size_t ended_count);
 
 /* A row of marks, three coordinates each: two numbers a mark to answers, and to ends two bytes a
- * mark, as those of placing_invert. Each pair is the next mark's hint, and one budget serves all.
- * index[0] is afterwards the index of the mark that was refused, and 0 where none was. Refusals 1
- * to 6 and 11 are no mark's fault, and neither is a 7 that a row without marks is refused with too:
- * the hint, the tolerance and the periods are tested before the first mark. A pair may be infinite
- * as above, and is then no hint: the next mark is refused with 7. */
+ * mark, as those of placing_invert. One budget serves all. The hint is the first mark's. A pair is
+ * the next mark's hint, as it is written, where its run's end, before any shift by a period, is at
+ * most the tolerance from its mark. Any other mark is lost: the next has no hint, and is placed as
+ * by placing_invert without one. index[0] is afterwards the index of the mark that was refused, and
+ * 0 where none was. Refusals 1 to 6 and 11 are no mark's fault, and neither is a 7 that a row
+ * without marks is refused with too: the hint, the tolerance and the periods are tested before the
+ * first mark. A pair may be infinite as above, and the next mark is then refused with 7, unless the
+ * pair's own mark is lost. */
 uint64_t placing_row(PLACING_SURFACE_ARGUMENTS, const double *marks, size_t marks_count,
                      const double *hint, size_t hint_count, double tolerance,
                      const double *period_u, size_t period_u_count, const double *period_v,

@@ -142,12 +142,79 @@ static void ends(void) {
     EXPECT(SAME(pair, 0.0000005, 0.0000005) && SAME_BYTES(ended, PLACING_END_SINGULAR, 1));
 }
 
-/* A shift by more periods than a double can count. */
+/* A row on the square, and each of its marks by a call of its own: with the row's hint the first, a
+ * later one with the pair before it for its hint where that one's letter is c for close, and with
+ * none where it is l for lost. Whether pairs and ends are the same to the bit, whether each call
+ * takes as much as the row does for its mark, and whether that is its price. */
+static int is_led(const char *letters, const double *marks, const double *hint, double tolerance,
+                  const double *period, const uint64_t *prices) {
+    const double *first = hint;
+    double pairs[8], answers[8];
+    uint8_t ended[8], ends[8];
+    uint64_t alone[1] = {1000};
+    int so = 1;
+    for (size_t i = 0; letters[i]; i++) {
+        const double *mark = marks + 3 * i;
+        uint64_t before = alone[0], budget[1] = {1000}, index[1] = {9};
+        so &= !placing_invert(PLACING_SURFACE(&square), mark[0], mark[1], mark[2], hint,
+                              hint ? 2 : 0, tolerance, period, period ? 1 : 0, PLACING_NONE,
+                              PLACING_ARRAY(alone), pairs + 2 * i, 2, ended + 2 * i, 2);
+        so &= before - alone[0] == prices[i];
+        so &= !placing_row(PLACING_SURFACE(&square), marks, 3 * i + 3, first, first ? 2 : 0,
+                           tolerance, period, period ? 1 : 0, PLACING_NONE, PLACING_ARRAY(budget),
+                           PLACING_ARRAY(index), PLACING_ARRAY(answers), PLACING_ARRAY(ends));
+        so &= budget[0] == alone[0] && index[0] == 0;
+        so &= !memcmp(answers, pairs, (2 * i + 2) * sizeof *pairs);
+        so &= !memcmp(ends, ended, 2 * i + 2);
+        hint = letters[i] == 'c' ? pairs + 2 * i : NULL;
+    }
+    return so;
+}
+#define PRICES(...) ((const uint64_t[]){__VA_ARGS__})
+
+/* Which marks lead the next: those at most the tolerance away from the square. */
+static void lead(void) {
+    const double above[] = {0.25, 0.5, 0.75, 0.25, 0.5, 0.75};
+    EXPECT(is_led("cc", above, NULL, 1, NULL, PRICES(92, 1)));
+    EXPECT(is_led("cc", above, NULL, 0.75, NULL, PRICES(92, 1)));
+    EXPECT(is_led("ll", above, NULL, 0.75 - DBL_EPSILON / 2, NULL, PRICES(92, 92)));
+    EXPECT(is_led("ll", above, NULL, 0.5, NULL, PRICES(92, 92)));
+    /* A lost mark in the middle. */
+    const double beside[] = {0.25, 0.5, 0, 0.25, 0.5, 0.75, 0.25, 0.5, 0, 0.25, 0.5, 0};
+    EXPECT(is_led("clcc", beside, NULL, 0.5, NULL, PRICES(92, 94, 92, 1)));
+    EXPECT(is_led("cccc", beside, NULL, 1, NULL, PRICES(92, 1, 1, 1)));
+    /* The row's own hint is the first mark's, and no other's. */
+    const double hint[] = {0.25, 0.5};
+    EXPECT(is_led("cc", above, hint, 0.75, NULL, PRICES(1, 1)));
+    EXPECT(is_led("ll", above, hint, 0.5, NULL, PRICES(94, 92)));
+}
+
+/* A close mark hands on the turn that its pair was shifted to, a lost one does not. */
 static void shift(void) {
+    const double marks[] = {0.25, 0.5, 0.75, 0.25, 0.5, 0.75};
+    const double far[] = {5.25, 0.5}, turn[] = {1};
+    uint64_t budget[1] = {1000}, index[1];
+    double answers[4];
+    uint8_t ends[4];
+    EXPECT(is_led("cc", marks, far, 0.75, turn, PRICES(2, 2)));
+    EXPECT(is_led("ll", marks, far, 0.5, turn, PRICES(96, 92)));
+    EXPECT(!placing_row(PLACING_SURFACE(&square), PLACING_ARRAY(marks), PLACING_ARRAY(far), 0.75,
+                        PLACING_ARRAY(turn), PLACING_NONE, PLACING_ARRAY(budget),
+                        PLACING_ARRAY(index), PLACING_ARRAY(answers), PLACING_ARRAY(ends)));
+    EXPECT(SAME(answers, 5.25, 0.5, 5.25, 0.5));
+    EXPECT(!placing_row(PLACING_SURFACE(&square), PLACING_ARRAY(marks), PLACING_ARRAY(far), 0.5,
+                        PLACING_ARRAY(turn), PLACING_NONE, PLACING_ARRAY(budget),
+                        PLACING_ARRAY(index), PLACING_ARRAY(answers), PLACING_ARRAY(ends)));
+    EXPECT(SAME(answers, 5.25, 0.5, 0.25, 0.5));
+}
+
+/* A shift by more periods than a double can count: the next mark is refused where the first is
+ * close, and placed where it is lost. */
+static void infinite(void) {
     const double marks[] = {0.25, 0.5, 0.75, 0.25, 0.5, 0.75};
     const double hint[] = {1e300, 0.5}, period[] = {1e-300};
     uint64_t budget[1] = {1000}, index[1];
-    double pair[2], answers[4] = {[2] = 7};
+    double pair[2], answers[4] = {[2] = 7, [3] = 7};
     uint8_t ended[2], ends[4] = {9, 9, 9, 9};
     EXPECT(!placing_invert(PLACING_SURFACE(&square), 0.25, 0.5, 0.75, PLACING_ARRAY(hint), 1,
                            PLACING_ARRAY(period), PLACING_NONE, PLACING_ARRAY(budget),
@@ -157,8 +224,14 @@ static void shift(void) {
                        PLACING_ARRAY(period), PLACING_NONE, PLACING_ARRAY(budget),
                        PLACING_ARRAY(index), PLACING_ARRAY(answers),
                        PLACING_ARRAY(ends)) == PLACING_ARGUMENT);
-    EXPECT(index[0] == 1 && isinf(answers[0]) && answers[2] == 7);
+    EXPECT(index[0] == 1 && SAME(answers, pair[0], pair[1], 7, 7));
     EXPECT(SAME_BYTES(ends, PLACING_END_UNCHANGED, PLACING_ORIGIN_HINT, 9, 9));
+    EXPECT(!placing_row(PLACING_SURFACE(&square), PLACING_ARRAY(marks), PLACING_ARRAY(hint), 0.5,
+                        PLACING_ARRAY(period), PLACING_NONE, PLACING_ARRAY(budget),
+                        PLACING_ARRAY(index), PLACING_ARRAY(answers), PLACING_ARRAY(ends)));
+    EXPECT(index[0] == 0 && SAME(answers, pair[0], pair[1], 0.25, 0.5));
+    EXPECT(SAME_BYTES(ends, PLACING_END_UNCHANGED, PLACING_ORIGIN_HINT, PLACING_END_UNCHANGED, 1));
+    EXPECT(is_led("ll", marks, hint, 0.5, period, PRICES(96, 92)));
 }
 
 static void row(void) {
@@ -175,9 +248,16 @@ static void row(void) {
                         PLACING_NONE, PLACING_NONE, PLACING_ARRAY(budget), PLACING_ARRAY(index),
                         PLACING_ARRAY(answers), PLACING_ARRAY(ends)));
     EXPECT(SAME(answers, 0.25, 0.5, 0.25, 0.5, 7));
+    EXPECT(SAME_BYTES(ends, PLACING_END_UNCHANGED, 1, PLACING_END_UNCHANGED, 1, 7));
+    EXPECT(budget[0] == 816 && index[0] == 0 && index[1] == 9);
+    budget[0] = 1000;
+    EXPECT(!placing_row(PLACING_SURFACE(&square), PLACING_ARRAY(marks), PLACING_NONE, 1,
+                        PLACING_NONE, PLACING_NONE, PLACING_ARRAY(budget), PLACING_ARRAY(index),
+                        PLACING_ARRAY(answers), PLACING_ARRAY(ends)));
+    EXPECT(SAME(answers, 0.25, 0.5, 0.25, 0.5, 7));
     EXPECT(
         SAME_BYTES(ends, PLACING_END_UNCHANGED, 1, PLACING_END_UNCHANGED, PLACING_ORIGIN_HINT, 7));
-    EXPECT(budget[0] == 814 && index[0] == 0 && index[1] == 9);
+    EXPECT(budget[0] == 907 && index[0] == 0);
     budget[0] = 100;
     answers[2] = 7;
     memset(ends, 9, 4);
@@ -288,7 +368,7 @@ static void job(void) {
         count = put(file, count, mark, sizeof mark);
     }
     const char expected[] = "marks 2\n3fd0000000000000 3fe0000000000000 908 0\n"
-                            "3fd0000000000000 3fe0000000000000 814 0\n\7";
+                            "3fd0000000000000 3fe0000000000000 816 0\n\7";
     memset(printout, 7, sizeof printout);
     EXPECT(placing_job(file, count, printout, PLACING_PRINTOUT_ROOM - 1, PLACING_ARRAY(written)) ==
            PLACING_MISFIT);
@@ -391,7 +471,9 @@ int main(void) {
     surfaces();
     invert();
     ends();
+    lead();
     shift();
+    infinite();
     row();
     derivative();
     singular();

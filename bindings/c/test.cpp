@@ -39,10 +39,10 @@ struct Square {
 
 static uint64_t row(const Square &square, const Numbers &marks, const Numbers &hint,
                     const Numbers &period, Counts &budget, Counts &index, Numbers &answers,
-                    Bytes &ends) {
+                    Bytes &ends, double tolerance = 0.5) {
     const placing_surface lent = square.lent();
     return placing_row(PLACING_SURFACE(&lent), marks.data(), marks.size(), hint.data(), hint.size(),
-                       0.5, period.data(), period.size(), PLACING_NONE, budget.data(),
+                       tolerance, period.data(), period.size(), PLACING_NONE, budget.data(),
                        budget.size(), index.data(), index.size(), answers.data(), answers.size(),
                        ends.data(), ends.size());
 }
@@ -57,12 +57,22 @@ int main() {
 
     EXPECT(row(Square(), marks, none, none, budget, index, answers, ends) == 0);
     EXPECT(answers == (Numbers{0.25, 0.5, 0.25, 0.5, 7}));
+    EXPECT(ends == (Bytes{PLACING_END_UNCHANGED, 1, PLACING_END_UNCHANGED, 1, 7}));
+    EXPECT(budget[0] == 816 && index[0] == 0);
+    budget[0] = 1000;
+    EXPECT(row(Square(), marks, none, none, budget, index, answers, ends, 1) == 0);
+    EXPECT(answers == (Numbers{0.25, 0.5, 0.25, 0.5, 7}));
     EXPECT(ends ==
            (Bytes{PLACING_END_UNCHANGED, 1, PLACING_END_UNCHANGED, PLACING_ORIGIN_HINT, 7}));
-    EXPECT(budget[0] == 814 && index[0] == 0);
-    EXPECT(row(Square(), marks, Numbers{5.25, 0.5}, Numbers{1}, budget, index, answers, ends) == 0);
+    EXPECT(budget[0] == 907 && index[0] == 0);
+
+    const Numbers far{5.25, 0.5}, turn{1};
+    EXPECT(row(Square(), marks, far, turn, budget, index, answers, ends, 1) == 0);
     EXPECT(answers == (Numbers{5.25, 0.5, 5.25, 0.5, 7}));
     EXPECT(ends[1] == PLACING_ORIGIN_HINT && ends[3] == PLACING_ORIGIN_HINT && ends[4] == 7);
+    EXPECT(row(Square(), marks, far, turn, budget, index, answers, ends) == 0);
+    EXPECT(answers == (Numbers{5.25, 0.5, 0.25, 0.5, 7}));
+    EXPECT(ends[1] == PLACING_ORIGIN_HINT && ends[3] == 1 && ends[4] == 7);
 
     EXPECT(row(Square(), none, none, none, budget, index, no_answers, no_ends) == 0);
     EXPECT(row(Square(), marks, none, none, budget, index, no_answers, ends) == PLACING_ROW);

@@ -34,9 +34,16 @@ fn main() -> Result<(), Box<dyn Error>> {
     );
     println!("its run came from {} and ended: {}", top.origin, top.end);
 
-    let marks = [[0.5, 0.5, 0.25], [0.75, 0.5, 0.5], [1., 0.5, 0.5]];
-    let mut pairs = [[0.; 2]; 3];
-    let mut ends = [[255; 2]; 3];
+    // All but the third lie on the dome. That one is lost, and so the fourth has no hint.
+    let marks = [
+        [0.5, 0.5, 0.28125],
+        [0.75, 0.5, 0.3515625],
+        [1., 0.5, 0.5],
+        [1.25, 0.5, 0.3515625],
+        [1.5, 0.5, 0.28125],
+    ];
+    let mut pairs = [[0.; 2]; 5];
+    let mut ends = [[255; 2]; 5];
     dome.row(&marks, &search, &mut budget, &mut pairs, &mut ends)?;
     for (pair, ended) in pairs.into_iter().zip(ends) {
         let placed = Placed::read(pair, ended).expect("the whole row was placed");

@@ -108,7 +108,8 @@ pub enum Period {
 #[derive(Clone, Copy, Debug, Default, PartialEq)]
 pub struct Search {
     pub hint: Hint,
-    /// How near to the mark the end of the hint's run is good enough.
+    /// How near to the mark the end of the hint's run is good enough; and in a row, how near to its
+    /// mark the end of a run is whose pair is the next mark's hint.
     pub tolerance: f64,
     pub periods: [Period; 2],
 }
@@ -186,10 +187,14 @@ impl Surface<'_> {
     }
 
     /// The pairs of a row of marks, written to the front of `answers`, and how the runs that found
-    /// them ended, to the front of `ends`. Each pair is the next mark's hint, and one budget serves
-    /// all. Where a mark is refused the pairs and ends before it are written, and all later ones keep
-    /// their bits. A pair may be infinite as in [`Surface::invert`], and is then no hint: the next
-    /// mark is refused with [`Refusal::Argument`].
+    /// them ended, to the front of `ends`. One budget serves all. Where a mark is refused the pairs
+    /// and ends before it are written, and all later ones keep their bits.
+    ///
+    /// The search's hint is the first mark's. A pair is the next mark's hint, as it is written, where
+    /// its run's end, before any shift by a period, is at most the tolerance from its mark. Any other
+    /// mark is lost: the next has no hint, and is placed as by [`Surface::invert`] without one. A pair
+    /// may be infinite as there, and the next mark is then refused with [`Refusal::Argument`], unless
+    /// the pair's own mark is lost.
     ///
     /// ```
     /// # use placing::{End, Origin, Placed, RowRefusal, Search, Surface};
@@ -209,6 +214,12 @@ impl Surface<'_> {
     /// let second = Placed::read(pairs[1], ends[1]).unwrap();
     /// assert_eq!(second.pair, [0.5, 0.5]);
     /// assert_eq!((second.end, second.origin), (End::Unchanged, Origin::Hint));
+    ///
+    /// // The first lies 0.75 off the square: with a smaller tolerance it is lost.
+    /// let search = Search { tolerance: 0.5, ..search };
+    /// square.row(&marks, &search, &mut 1000, &mut pairs, &mut ends)?;
+    /// let second = Placed::read(pairs[1], ends[1]).unwrap();
+    /// assert_eq!((second.pair, second.origin), ([0.5, 0.5], Origin::Start(1)));
     /// # Ok::<(), RowRefusal>(())
     /// ```
     pub fn row(

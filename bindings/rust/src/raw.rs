@@ -252,8 +252,10 @@ pub fn invert(
 }
 
 /// A row of marks, three coordinates each: two numbers a mark to `answers`, and two bytes a mark to
-/// `ends`, as [`invert`] writes them. Each answer is the next mark's hint. `index[0]` is afterwards
-/// the index of the mark that was refused, and 0 where none was.
+/// `ends`, as [`invert`] writes them. An answer is the next mark's hint, as it is written, where its
+/// run's end, before any shift by a period, is at most the tolerance from its mark; else the next
+/// mark has none. `index[0]` is afterwards the index of the mark that was refused, and 0 where none
+/// was.
 #[allow(clippy::too_many_arguments)]
 pub fn row(
     s: &Lent,

@@ -7,7 +7,11 @@ use std::thread;
 
 const KNOTS: [f64; 4] = [0., 0., 1., 1.];
 const NET: [f64; 12] = [0., 0., 0., 0., 1., 0., 1., 0., 0., 1., 1., 0.];
+/// Off the square by 0.75, and the same point of it.
 const MARK: [f64; 3] = [0.25, 0.5, 0.75];
+const ON: [f64; 3] = [0.25, 0.5, 0.];
+/// The number before 0.75.
+const BELOW: f64 = f64::from_bits(0.75_f64.to_bits() - 1);
 
 /// The point at (u, v) is (u, v, 0).
 fn square() -> Surface<'static> {
@@ -40,6 +44,21 @@ fn dome() -> Surface<'static> {
             1., 0., 2., 2., 0.,
         ],
         weights: &[1.; 9],
+    }
+}
+
+/// A sheet that is bent double: it goes out along x at height 0, for u from 0 to 1, and comes back at
+/// height 0.5, for u from 2 to 3.
+fn fold() -> Surface<'static> {
+    Surface {
+        shape: [4, 2],
+        knots: [&[0., 0., 1., 2., 3., 3.], &KNOTS],
+        controls: &[
+            0., 0., 0., 0., 1., 0., 1., 0., 0., 1., 1., 0., 1., 0., 0.5, 1., 1., 0.5, 0., 0., 0.5,
+            0., 1., 0.5,
+        ],
+        weights: &[1.; 8],
+        ..square()
     }
 }
 
@@ -257,7 +276,15 @@ fn places_a_row() {
         square().row(&marks, &free(0.5), &mut budget, &mut pairs, &mut ends),
         Ok(())
     );
-    assert_eq!((budget, pairs), (814, [[0.25, 0.5], [0.25, 0.5], [7.; 2]]));
+    assert_eq!((budget, pairs), (816, [[0.25, 0.5], [0.25, 0.5], [7.; 2]]));
+    assert_eq!(ends, [[0, 1], [0, 1], [7; 2]]);
+
+    let mut budget = 1000;
+    assert_eq!(
+        square().row(&marks, &free(1.), &mut budget, &mut pairs, &mut ends),
+        Ok(())
+    );
+    assert_eq!((budget, pairs), (907, [[0.25, 0.5], [0.25, 0.5], [7.; 2]]));
     assert_eq!(ends, [[0, 1], [0, 0], [7; 2]]);
 
     let mut budget = 100;
@@ -272,6 +299,109 @@ fn places_a_row() {
         Ok(())
     );
     assert_eq!(budget, 0);
+}
+
+/// Whether a mark of a row leads the next.
+#[derive(Clone, Copy, PartialEq)]
+enum Led {
+    Close,
+    Lost,
+}
+use Led::{Close, Lost};
+
+/// What each mark of a row takes. Each is also placed by a call of its own: the first with the
+/// row's hint, a later one with the pair before it for its hint where that one is close, and with
+/// none where it is lost. The row has the same bits for the same price, mark by mark.
+fn prices<const N: usize>(
+    surface: &Surface,
+    marks: [([f64; 3], Led); N],
+    search: Search,
+) -> [u64; N] {
+    let points = marks.map(|(mark, _)| mark);
+    let (mut pairs, mut ends) = (vec![], vec![]);
+    let mut alone = (search, 100_000);
+    let mut at = 0;
+    marks.map(|(mark, led)| {
+        let (own, left) = alone;
+        let mut budget = left;
+        let placed = surface.invert(mark, &own, &mut budget).unwrap();
+        pairs.push(placed.pair.map(f64::to_bits));
+        ends.push([placed.end.number(), placed.origin.number()]);
+        let hint = match led {
+            Close => Hint::At(placed.pair),
+            Lost => Hint::Nothing,
+        };
+        alone = (Search { hint, ..search }, budget);
+        at += 1;
+
+        let mut row_budget = 100_000;
+        let (mut row_pairs, mut row_ends) = ([[7.; 2]; N], [[7; 2]; N]);
+        let ended = surface.row(
+            &points[..at],
+            &search,
+            &mut row_budget,
+            &mut row_pairs,
+            &mut row_ends,
+        );
+        assert_eq!((ended, row_budget), (Ok(()), budget));
+        let row_pairs = row_pairs.map(|pair| pair.map(f64::to_bits));
+        assert_eq!((&row_pairs[..at], &row_ends[..at]), (&pairs[..], &ends[..]));
+        left - budget
+    })
+}
+
+#[test]
+fn a_close_mark_leads_the_next() {
+    let row = [(MARK, Close), (MARK, Close)];
+    assert_eq!(prices(&square(), row, free(1.)), [92, 1]);
+    let row = [(ON, Close), (MARK, Close), (ON, Close), (ON, Close)];
+    assert_eq!(prices(&square(), row, free(1.)), [92, 1, 1, 1]);
+}
+
+#[test]
+fn a_mark_at_the_tolerance_is_close() {
+    let row = [(MARK, Close), (MARK, Close)];
+    assert_eq!(prices(&square(), row, free(0.75)), [92, 1]);
+    let row = [(MARK, Lost), (MARK, Lost)];
+    assert_eq!(prices(&square(), row, free(BELOW)), [92, 92]);
+    // And with a tolerance of 0 a mark on the surface.
+    let row = [(ON, Close), (ON, Close), (MARK, Lost), (ON, Close)];
+    assert_eq!(prices(&square(), row, free(0.)), [92, 1, 94, 92]);
+}
+
+#[test]
+fn a_lost_mark_does_not_lead_the_next() {
+    let row = [(MARK, Lost), (MARK, Lost), (MARK, Lost)];
+    assert_eq!(prices(&square(), row, free(0.5)), [92; 3]);
+    let row = [(ON, Close), (MARK, Lost), (ON, Close), (ON, Close)];
+    assert_eq!(prices(&square(), row, free(0.5)), [92, 94, 92, 1]);
+    // The row's own hint is the first mark's, and comes back for no other.
+    let row = [(MARK, Lost), (MARK, Lost)];
+    assert_eq!(prices(&square(), row, hinted(0.25, 0.5, 0.5)), [94, 92]);
+}
+
+#[test]
+fn a_lost_mark_does_not_pull_the_next_to_its_own_patch() {
+    let (on, over, near) = ([0.25, 0.5, 0.], [0.25, 0.5, 2.], [0.25, 0.5, 0.125]);
+    let (below, above) = ([0.25, 0.5], [2.75, 0.5]);
+    let single = |search| fold().invert(near, &search, &mut 1000).unwrap().pair;
+    assert_eq!(single(hinted(2.75, 0.5, 0.5)), above);
+    assert_eq!(single(free(0.5)), below);
+
+    let pairs = |tolerance| {
+        let mut pairs = [[7.; 2]; 3];
+        let (marks, mut ends) = ([on, over, near], [[7; 2]; 3]);
+        let ended = fold().row(&marks, &free(tolerance), &mut 1000, &mut pairs, &mut ends);
+        assert_eq!(ended, Ok(()));
+        pairs
+    };
+    assert_eq!(pairs(0.5), [below, above, below]);
+    let row = [(on, Close), (over, Lost), (near, Close)];
+    prices(&fold(), row, free(0.5));
+    // Within the tolerance it does.
+    assert_eq!(pairs(1.5), [below, above, above]);
+    let row = [(on, Close), (over, Close), (near, Close)];
+    prices(&fold(), row, free(1.5));
 }
 
 #[test]
@@ -311,7 +441,12 @@ fn places_a_flat_row() {
     let (mut numbers, mut bytes) = ([7.; 5], [7; 5]);
     let ended = square().row_flat(&marks, &free(0.5), &mut budget, &mut numbers, &mut bytes);
     assert_eq!(ended, Ok(()));
-    assert_eq!((budget, numbers), (814, [0.25, 0.5, 0.25, 0.5, 7.]));
+    assert_eq!((budget, numbers), (816, [0.25, 0.5, 0.25, 0.5, 7.]));
+    assert_eq!(bytes, [0, 1, 0, 1, 7]);
+    let mut budget = 1000;
+    let ended = square().row_flat(&marks, &free(1.), &mut budget, &mut numbers, &mut bytes);
+    assert_eq!(ended, Ok(()));
+    assert_eq!((budget, numbers), (907, [0.25, 0.5, 0.25, 0.5, 7.]));
     assert_eq!(bytes, [0, 1, 0, 0, 7]);
     for (coordinates, answers, ends) in [(5, 5, 5), (6, 3, 5), (6, 5, 3)] {
         let ended = square().row_flat(
@@ -327,7 +462,7 @@ fn places_a_flat_row() {
 
 #[test]
 fn blames_a_mark_only_for_its_own_fault() {
-    let lost = [0., f64::NAN, 0.];
+    let unread = [0., f64::NAN, 0.];
     let every = |period| Search {
         periods: [Period::Every(period), Period::Free],
         ..Search::default()
@@ -351,18 +486,18 @@ fn blames_a_mark_only_for_its_own_fault() {
     };
     // The search is tested first: its fault is no mark's, whatever the marks are.
     for search in &unsound {
-        let rows: [&[_]; 3] = [&[], &[MARK], &[lost, MARK]];
+        let rows: [&[_]; 3] = [&[], &[MARK], &[unread, MARK]];
         for marks in rows {
             assert_eq!(ended(marks, search), refused(Refusal::Argument, None));
         }
     }
     let search = &free(0.5);
     assert_eq!(
-        ended(&[lost, MARK], search),
+        ended(&[unread, MARK], search),
         refused(Refusal::Argument, Some(0))
     );
     assert_eq!(
-        ended(&[MARK, lost], search),
+        ended(&[MARK, unread], search),
         refused(Refusal::Argument, Some(1))
     );
     assert_eq!(
@@ -371,12 +506,33 @@ fn blames_a_mark_only_for_its_own_fault() {
     );
 }
 
+/// With a period of u.
+fn turned(u: f64, period: f64, tolerance: f64) -> Search {
+    Search {
+        periods: [Period::Every(period), Period::Free],
+        ..hinted(u, 0.5, tolerance)
+    }
+}
+
 #[test]
-fn a_pair_may_be_infinite_and_is_then_no_hint() {
-    let search = Search {
-        periods: [Period::Every(1e-300), Period::Free],
-        ..hinted(1e300, 0.5, 1.)
+fn a_close_mark_hands_on_its_turn() {
+    let pairs = |search| {
+        let mut pairs = [[7.; 2]; 2];
+        let ended = square().row(&[MARK; 2], &search, &mut 1000, &mut pairs, &mut [[7; 2]; 2]);
+        assert_eq!(ended, Ok(()));
+        pairs
     };
+    assert_eq!(pairs(turned(5.25, 1., 0.75)), [[5.25, 0.5]; 2]);
+    assert_eq!(pairs(turned(5.25, 1., BELOW)), [[5.25, 0.5], [0.25, 0.5]]);
+    let close = [(MARK, Close), (MARK, Close)];
+    assert_eq!(prices(&square(), close, turned(5.25, 1., 0.75)), [2, 2]);
+    let lost = [(MARK, Lost), (MARK, Lost)];
+    assert_eq!(prices(&square(), lost, turned(5.25, 1., BELOW)), [96, 92]);
+}
+
+#[test]
+fn a_pair_may_be_infinite_and_where_it_is_close_the_next_mark_is_refused() {
+    let search = turned(1e300, 1e-300, 1.);
     let far = [f64::INFINITY, 0.5];
     assert_eq!(
         square().invert(MARK, &search, &mut 1000),
@@ -386,6 +542,18 @@ fn a_pair_may_be_infinite_and_is_then_no_hint() {
     let ended = square().row(&[MARK, MARK], &search, &mut 1000, &mut pairs, &mut ends);
     assert_eq!(ended, refused(Refusal::Argument, Some(1)));
     assert_eq!((pairs, ends), ([far, [7.; 2]], [[0, 0], [7; 2]]));
+}
+
+#[test]
+fn a_pair_may_be_infinite_and_where_it_is_lost_the_next_mark_is_placed() {
+    let search = turned(1e300, 1e-300, 0.5);
+    let (mut pairs, mut ends) = ([[7.; 2]; 2], [[7; 2]; 2]);
+    let ended = square().row(&[MARK, MARK], &search, &mut 1000, &mut pairs, &mut ends);
+    assert_eq!(ended, Ok(()));
+    assert_eq!(pairs, [[f64::INFINITY, 0.5], [0.25, 0.5]]);
+    assert_eq!(ends, [[0, 0], [0, 1]]);
+    let row = [(MARK, Lost), (MARK, Lost)];
+    assert_eq!(prices(&square(), row, search), [96, 92]);
 }
 
 #[test]
@@ -492,23 +660,33 @@ fn locates_in_a_plane() {
     assert_eq!(budget, 0);
 }
 
-#[test]
-fn prints_a_job() {
+/// The square and the mark twice.
+fn job_file(tolerance: f64) -> Vec<u8> {
     let mut file = b"SF\x01\x01\x02\x00\x02\x00\x00".to_vec();
     for number in [&KNOTS[..], &KNOTS, &NET, &[1.; 4]].concat() {
         file.extend(number.to_le_bytes());
     }
     file.extend(b"TL");
-    file.extend(0.5_f64.to_le_bytes());
+    file.extend(tolerance.to_le_bytes());
     file.extend(1000_u64.to_le_bytes());
     for _ in 0..2 {
         file.extend(b"MK");
         file.extend(MARK.map(f64::to_le_bytes).as_flattened());
     }
-    let printout = "marks 2\n\
-                    3fd0000000000000 3fe0000000000000 908 0\n\
-                    3fd0000000000000 3fe0000000000000 814 0\n";
-    assert_eq!(job(&file), printout.as_bytes());
+    file
+}
+
+#[test]
+fn prints_a_job() {
+    for (tolerance, left) in [(0.5, 816), (BELOW, 816), (0.75, 907), (1., 907)] {
+        let printout = format!(
+            "marks 2\n\
+             3fd0000000000000 3fe0000000000000 908 0\n\
+             3fd0000000000000 3fe0000000000000 {left} 0\n"
+        );
+        assert_eq!(job(&job_file(tolerance)), printout.as_bytes());
+    }
+    let file = job_file(0.5);
     for malformed in [&[], &file[..file.len() - 1], &[0; 32_769]] {
         assert_eq!(job(malformed), b"refused 12 at 0\n");
     }
