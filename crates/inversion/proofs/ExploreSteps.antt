@@ -105,7 +105,7 @@ module _ (s : Surface) (m : Float) (mark : Vector3) (hint : Hint) (tolerance : F
     hinted-least : (r : Priced End) → price r ≤ price (afterRun r)
     unfolding hinted unlessClose
     hinted-least (refused k) = omega arith
-    hinted-least (answered a k) = by (within tolerance a)
+    hinted-least (answered a k) = by (within a tolerance)
       where
         by : (t : Bool) → k ≤ price (unlessClose (domainOf s) mark (evaluateBy s m) (valuesOf (axisU s)) (valuesOf (axisV s)) t a k)
         by true = omega arith
@@ -124,14 +124,14 @@ module _ (s : Surface) (m : Float) (mark : Vector3) (hint : Hint) (tolerance : F
       pub hint-fits : k ≤ budget
       hint-fits = ended-back budget _ e a k ended .1
 
-      weighed : inversionBy s m mark hint tolerance ≡ unlessClose (domainOf s) mark (evaluateBy s m) (valuesOf (axisU s)) (valuesOf (axisV s)) (within tolerance a) a k
+      weighed : inversionBy s m mark hint tolerance ≡ unlessClose (domainOf s) mark (evaluateBy s m) (valuesOf (axisU s)) (valuesOf (axisV s)) (within a tolerance) a k
       unfolding hinted
       weighed = by-run ∙ rw (ended-back budget _ e a k ended .0)
 
-      pub hint-close : within tolerance a ≡ true → Answer.Chosen (ofHint a) k ≡ answer
+      pub hint-close : within a tolerance ≡ true → Answer.Chosen (ofHint a) k ≡ answer
       unfolding unlessClose
       hint-close t = rw (weighed, t) (chosen-told budget (ofHint a) k hint-fits)
 
-      pub hint-far : within tolerance a ≡ false → {r : Answer} → r ≡ answerOf (spend budget (after k (exploredOn s m mark (At (ofHint a)) k))) → r ≡ answer
+      pub hint-far : within a tolerance ≡ false → {r : Answer} → r ≡ answerOf (spend budget (after k (exploredOn s m mark (At (ofHint a)) k))) → r ≡ answer
       unfolding unlessClose
       hint-far t h = h ∙ rw (weighed, t)

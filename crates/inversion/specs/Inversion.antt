@@ -35,8 +35,8 @@ numbered i (e ∷ es) = record { end = e; origin = i } ∷ numbered (suc i) es
 -- ---- the choice among them
 
 -- a run's end lies within the tolerance
-abbrev pub within : Float → End → Bool
-within tolerance e = le (e .at .distance) tolerance
+abbrev pub within : End → Float → Bool
+within e tolerance = le (e .at .distance) tolerance
 
 -- the first with the least distance
 unfoldable pub nearer : Choice → Choice → Choice
@@ -77,7 +77,7 @@ module _ (d : Domain) (mark : Vector3) (eval : Float → Float → Evaluated) wh
 
     unfoldable pub hinted : Float → Priced End → Priced Choice
     hinted tolerance (refused k) = refused k
-    hinted tolerance (answered e k) = unlessClose (within tolerance e) e k
+    hinted tolerance (answered e k) = unlessClose (within e tolerance) e k
 
     unfoldable pub plainSteps : Hint → Float → Priced Choice
     plainSteps Hint.Nothing tolerance = explored Nothing 0

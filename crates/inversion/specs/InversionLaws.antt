@@ -105,11 +105,11 @@ module _ (d : Domain) (mark : Vector3) (eval : Float → Float → Evaluated) wh
   -- the end of the hint's run, if there is a hint, which is not within tolerance; and the evaluations that it made
   pub data Leads (tolerance : Float) : Hint → Best → ℕ → Type 0 where
     nothing : Leads tolerance Hint.Nothing Nothing 0
-    from : {u v : Float} {e : End} {k : ℕ} → run d mark eval u v ≡ answered e k → within tolerance e ≡ false → Leads tolerance (Hint.At u v) (At (ofHint e)) k
+    from : {u v : Float} {e : End} {k : ℕ} → run d mark eval u v ≡ answered e k → within e tolerance ≡ false → Leads tolerance (Hint.At u v) (At (ofHint e)) k
 
   module _ (us vs : List Float) where
     -- "A pair, before any shift by periods, is the hint run's end where that lies within tolerance."
-    pub hint-taken : (u v tolerance : Float) (e : End) (k : ℕ) → run d mark eval u v ≡ answered e k → within tolerance e ≡ true
+    pub hint-taken : (u v tolerance : Float) (e : End) (k : ℕ) → run d mark eval u v ≡ answered e k → within e tolerance ≡ true
         → plainSteps d mark eval us vs (Hint.At u v) tolerance ≡ answered (ofHint e) k
     unfolding plainSteps hinted unlessClose
     hint-taken u v tolerance e k p h = simp (p, h)
@@ -152,7 +152,7 @@ module _ (d : Domain) (mark : Vector3) (eval : Float → Float → Evaluated) wh
 
     -- a pair is the end of the hint's run, within tolerance, or it is chosen
     pub data Paired (tolerance : Float) : Hint → Choice → ℕ → Type 0 where
-      taken : {u v : Float} {e : End} {n : ℕ} → run d mark eval u v ≡ answered e n → within tolerance e ≡ true → Paired tolerance (Hint.At u v) (ofHint e) n
+      taken : {u v : Float} {e : End} {n : ℕ} → run d mark eval u v ≡ answered e n → within e tolerance ≡ true → Paired tolerance (Hint.At u v) (ofHint e) n
       among : {hint : Hint} {c : Choice} {n : ℕ} → Chosen tolerance hint c n → Paired tolerance hint c n
 
     module _ (tolerance : Float) where
@@ -198,9 +198,9 @@ module _ (d : Domain) (mark : Vector3) (eval : Float → Float → Evaluated) wh
       hinted-paired : (u v : Float) (r : Priced End) → run d mark eval u v ≡ r → Answers (Paired tolerance (Hint.At u v)) (hinted d mark eval us vs tolerance r)
       unfolding hinted unlessClose
       hinted-paired u v (refused n) p = tt
-      hinted-paired u v (answered e k) p = by (within tolerance e) refl
+      hinted-paired u v (answered e k) p = by (within e tolerance) refl
         where
-          by : (t : Bool) → within tolerance e ≡ t → Answers (Paired tolerance (Hint.At u v)) (unlessClose d mark eval us vs t e k)
+          by : (t : Bool) → within e tolerance ≡ t → Answers (Paired tolerance (Hint.At u v)) (unlessClose d mark eval us vs t e k)
           by true t = taken p t
           by false t = after-answers (Paired tolerance (Hint.At u v)) k _ (explored-paired (Hint.At u v) (At (ofHint e)) k (from p t))
 

@@ -80,7 +80,7 @@ module _ (d : Domain) (mark : Vector3) (eval : Float → Float → Evaluated) wh
     hinted-bounds : (tolerance : Float) (r : Priced End) → Between 1 (price r) 33 → Between 1 (price (hinted d mark eval us vs tolerance r)) 37513
     unfolding hinted
     hinted-bounds tolerance (refused k) h = record { above = h .above; under = omega arith }
-    hinted-bounds tolerance (answered e k) h = close-bounds (within tolerance e) e k h
+    hinted-bounds tolerance (answered e k) h = close-bounds (within e tolerance) e k h
 
     -- "an inversion on it has one price, 01's count of evaluations, 1 to 37,513, whatever its budget"
     pub price-bounds : (hint : Hint) (tolerance : Float) → Between 1 (price (plainSteps d mark eval us vs hint tolerance)) 37513

@@ -84,7 +84,7 @@ module _ (d : Domain) (mark : Vector3) (eval : Float → Float → Evaluated) wh
     unfolding hinted isClose _then_
     hinted-evaluates tolerance again (refused k) h =
         then-evaluates eval again (search d mark eval us vs again) (λ (e : End). answered (ofHint e) 0) (refused k) h (λ e n p. absurd (let y : _≡_ {A = ℕ} 0 1 = cc in omega arith))
-    hinted-evaluates tolerance again (answered e k) h = close-evaluates again (within tolerance e) e k h
+    hinted-evaluates tolerance again (answered e k) h = close-evaluates again (within e tolerance) e k h
 
     -- the price of the plain steps is the number of pairs that they evaluate; where they are answered all are found, and where not the last is refused and no other
     pub steps-evaluate : (hint : Hint) (tolerance : Float) → Evaluates eval (plainSteps d mark eval us vs hint tolerance) (evaluations d mark eval us vs hint tolerance)

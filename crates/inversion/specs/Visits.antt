@@ -22,7 +22,7 @@ use Rattle.inversion.specs.Inversion.{within}
 -- whether a run ends within the tolerance; a refused one has no end
 unfoldable pub isClose : Float → Priced End → Bool
 isClose tolerance (refused n) = false
-isClose tolerance (answered e n) = within tolerance e
+isClose tolerance (answered e n) = within e tolerance
 
 module _ (d : Domain) (mark : Vector3) (eval : Float → Float → Evaluated) where
   -- each start's run, in order

@@ -46,9 +46,9 @@ pub struct Lead {
     pub again: u64,
 }
 
-// The test by which a hint's run is taken.
+// The test by which a hint's run is taken, and by which a mark of a row leads the next.
 pub fn within(end: End, tolerance: f64) -> bool
-    ensures { λ r. ⌜ r ≡ within tolerance end ⌝ }
+    ensures { λ r. ⌜ r ≡ within end tolerance ⌝ }
 {
     end.at.distance <= tolerance
 }

@@ -63,7 +63,7 @@ module _ (s : Surface) (ok : refusalOfSurface s ≡ 0) (mark : Vector3) (terms :
 
   pub data Source (c : Choice) (n : ℕ) : Type 0 where
     -- "the hint run's end where that lies within tolerance"
-    hint-end : {u v : Float} → terms .hint ≡ At u v → runFrom u v ≡ answered (c .end) n → c .origin ≡ 0 → within (terms .tolerance) (c .end) ≡ true → Source c n
+    hint-end : {u v : Float} → terms .hint ≡ At u v → runFrom u v ≡ answered (c .end) n → c .origin ≡ 0 → within (c .end) (terms .tolerance) ≡ true → Source c n
     otherwise : Otherwise c n → Source c n
 
   -- a pair that the call answers with the units it took
@@ -132,7 +132,7 @@ module _ (s : Surface) (ok : refusalOfSurface s ≡ 0) (mark : Vector3) (terms :
       by false l = absurd (let g = rw (answer-short terms s ok mark sound budget (leb-false _ _ l)) at h in let z : _≡_ {A = ℕ} 0 1 = cc in omega arith)
 
   -- and where the hint run's end lies within tolerance, the call answers that end, shifted, for the evaluations of that run
-  pub placed-hint : (u v : Float) → terms .hint ≡ At u v → (e : End) (n : ℕ) → runFrom u v ≡ answered e n → within (terms .tolerance) e ≡ true
+  pub placed-hint : (u v : Float) → terms .hint ≡ At u v → (e : End) (n : ℕ) → runFrom u v ≡ answered e n → within e (terms .tolerance) ≡ true
       → (budget : ℕ) → n ≤ budget → placed s mark terms budget ≡ Pair (turned terms (ofHint e)) n
   unfolding inversionBy
   placed-hint u v h e n r t budget l =

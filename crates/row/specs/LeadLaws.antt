@@ -31,24 +31,24 @@ use Rattle.row.specs.Row.{Entry, Rowed, refusedAt, preceded, andThen, in
 use Rattle.row.specs.RowLaws.{fits, misfit-refused, row-fits}
 
 -- x is number i of a list, from 0 on
-abbrev pub Numbered : {A : Type 0} → List A → ℕ → A → Type 0
-Numbered {A} xs i x = (rest : List A) × (drop i xs ≡ x ∷ rest)
+abbrev pub Nth : {A : Type 0} → List A → ℕ → A → Type 0
+Nth {A} xs i x = (rest : List A) × (drop i xs ≡ x ∷ rest)
 
 module _ {A : Type 0} where
-  none-numbered : (i : ℕ) {x : A} → Numbered [] i x → ⊥
-  none-numbered i n = omega (arith, ap length (sym (drop-nil i) ∙ n .1))
+  none-th : (i : ℕ) {x : A} → Nth [] i x → ⊥
+  none-th i n = omega (arith, ap length (sym (drop-nil i) ∙ n .1))
 
-  first-is : {x y : A} {xs : List A} → Numbered (x ∷ xs) 0 y → x ≡ y
+  first-is : {x y : A} {xs : List A} → Nth (x ∷ xs) 0 y → x ≡ y
   first-is n = cc
 
-  numbered-inside : (xs : List A) (i : ℕ) {x : A} → Numbered xs i x → suc i ≤ length xs
-  numbered-inside xs i n = omega (arith, length-drop i xs, ap length (n .1))
+  nth-inside : (xs : List A) (i : ℕ) {x : A} → Nth xs i x → suc i ≤ length xs
+  nth-inside xs i n = omega (arith, length-drop i xs, ap length (n .1))
 
 -- ---- the row after a mark that was placed
 
 -- mark number i has the answer g to a budget of b: its entry, or the refusal that ends the row
 abbrev pub Answered : Rowed → ℕ → ℕ → Placing → Type 0
-Answered r i b (Pair c taken) = Numbered (r .pairs) i (record { choice = c; left = b - taken })
+Answered r i b (Pair c taken) = Nth (r .pairs) i (record { choice = c; left = b - taken })
 Answered r i b (Refusal number taken) = (length (r .pairs) ≡ i) × (r .ended ≡ RowEnd.Refusal number i (b - taken))
 
 abbrev carried : Terms → ℕ → Progress
@@ -68,10 +68,10 @@ module _ (s : Surface) where
   Goes i k marks t e r = r ≡ following (take (suc i) (r .pairs)) (inTurn s (k + suc i) (drop (suc i) marks) (carried (ledBy t (e .choice)) (e .left)))
 
   then-goes : (k : ℕ) (m : Vector3) (marks : List Vector3) (p : Progress) (e : Entry)
-      → ((i : ℕ) (q : Progress) → Numbered (inTurn s (k + 1) marks q .pairs) i e → Goes i (k + 1) marks (q .terms) e (inTurn s (k + 1) marks q))
-      → (i : ℕ) (g : Placing) → Numbered (andThen k (inTurn s (k + 1) marks) (stepBy p g) .pairs) i e → Goes i k (m ∷ marks) (p .terms) e (andThen k (inTurn s (k + 1) marks) (stepBy p g))
+      → ((i : ℕ) (q : Progress) → Nth (inTurn s (k + 1) marks q .pairs) i e → Goes i (k + 1) marks (q .terms) e (inTurn s (k + 1) marks q))
+      → (i : ℕ) (g : Placing) → Nth (andThen k (inTurn s (k + 1) marks) (stepBy p g) .pairs) i e → Goes i k (m ∷ marks) (p .terms) e (andThen k (inTurn s (k + 1) marks) (stepBy p g))
   unfolding andThen stepBy
-  then-goes k m marks p e more i (Refusal number t) n = absurd (none-numbered i n)
+  then-goes k m marks p e more i (Refusal number t) n = absurd (none-th i n)
   then-goes k m marks p e more zero (Pair c t) n = rw (← first-is n)
   then-goes k m marks p e more (suc i) (Pair c t) n =
       let q = carried (ledBy (p .terms) c) (p .left - t) in
@@ -80,9 +80,9 @@ module _ (s : Surface) where
       let own : Entry = record { choice = c; left = p .left - t } in
       ap (preceded own) (more i q n) ∙ ap (following (own ∷ take (suc i) (inTurn s (k + 1) marks q .pairs))) w
 
-  goes-on : (i k : ℕ) (marks : List Vector3) (p : Progress) (e : Entry) → Numbered (inTurn s k marks p .pairs) i e → Goes i k marks (p .terms) e (inTurn s k marks p)
+  goes-on : (i k : ℕ) (marks : List Vector3) (p : Progress) (e : Entry) → Nth (inTurn s k marks p .pairs) i e → Goes i k marks (p .terms) e (inTurn s k marks p)
   unfolding inTurn stepped
-  goes-on i k [] p e n = absurd (none-numbered i n)
+  goes-on i k [] p e n = absurd (none-th i n)
   goes-on i k (m ∷ marks) p e n = then-goes k m marks p e (λ j q. goes-on j (k + 1) marks q e) i (placed s m (p .terms) (p .left)) n
 
   -- a row that goes on with a mark answers it as the call does
@@ -127,22 +127,23 @@ module _ (s : Surface) where
       let z : k + i + 1 ≡ k + (i + 1) = omega arith in
       then-counted k i (inTurn s (k + i + 1) marks) (inTurn s (i + 1) marks) (λ q. rw z (counted k (i + 1) marks q)) (stepped s m p)
 
--- ---- a row whose tests at the start pass is that of its marks in turn
+-- ---- a row is that of its marks in turn
 
+-- on an accepted surface and sound terms
 module _ (s : Surface) (marks : List Vector3) (terms : Terms) (budget : ℕ) where
-  pub row-sound : refusalOfSurface s ≡ 0 → soundTerms terms ≡ true → rowed s marks terms budget ≡ inTurn s 0 marks (carried terms budget)
+  row-sound : refusalOfSurface s ≡ 0 → soundTerms terms ≡ true → rowed s marks terms budget ≡ inTurn s 0 marks (carried terms budget)
   unfolding rowed orElse unlessRefused
   row-sound ok sound = simp (ok, sound)
 
   -- and they passed where it has an entry
-  passed : (i : ℕ) {e : Entry} → Numbered (rowed s marks terms budget .pairs) i e → (refusalOfSurface s ≡ 0) × (soundTerms terms ≡ true)
+  passed : (i : ℕ) {e : Entry} → Nth (rowed s marks terms budget .pairs) i e → (refusalOfSurface s ≡ 0) × (soundTerms terms ≡ true)
   unfolding rowed orElse unlessRefused
   passed i {e} n = by (refusalOfSurface s) (soundTerms terms) n
     where
-      by : (k : ℕ) (t : Bool) → Numbered (unlessRefused (orElse k (when (not t) 7)) budget (λ left. inTurn s 0 marks (carried terms left)) .pairs) i e → (k ≡ 0) × (t ≡ true)
+      by : (k : ℕ) (t : Bool) → Nth (unlessRefused (orElse k (when (not t) 7)) budget (λ left. inTurn s 0 marks (carried terms left)) .pairs) i e → (k ≡ 0) × (t ≡ true)
       by zero true n = (refl, refl)
-      by zero false n = absurd (none-numbered i n)
-      by (suc k) t n = absurd (none-numbered i n)
+      by zero false n = absurd (none-th i n)
+      by (suc k) t n = absurd (none-th i n)
 
 unhinted-sound : (t : Terms) → soundTerms t ≡ true → soundTerms (withHint t Nothing) ≡ true
 unfolding soundTerms soundHint
@@ -188,42 +189,73 @@ module _ (s : Surface) (ok : refusalOfSurface s ≡ 0) where
   asked-again t c m e a = record { hint = a .hint; budget = a .budget; taken = a .taken; answer = a .answer; left = a .left; sound = a .sound; pair = a .pair }
 
   then-asked : (k : ℕ) (m own : Vector3) (marks : List Vector3) (p : Progress) (e : Entry)
-      → ((i : ℕ) (q : Progress) → Numbered (inTurn s (k + 1) marks q .pairs) i e → Numbered marks i m → Asked (q .terms) m e)
-      → (i : ℕ) (g : Placing) → placed s own (p .terms) (p .left) ≡ g → Numbered (andThen k (inTurn s (k + 1) marks) (stepBy p g) .pairs) i e → Numbered (own ∷ marks) i m → Asked (p .terms) m e
+      → ((i : ℕ) (q : Progress) → Nth (inTurn s (k + 1) marks q .pairs) i e → Nth marks i m → Asked (q .terms) m e)
+      → (i : ℕ) (g : Placing) → placed s own (p .terms) (p .left) ≡ g → Nth (andThen k (inTurn s (k + 1) marks) (stepBy p g) .pairs) i e → Nth (own ∷ marks) i m → Asked (p .terms) m e
   unfolding andThen stepBy
-  then-asked k m own marks p e more i (Refusal number t) h n o = absurd (none-numbered i n)
+  then-asked k m own marks p e more i (Refusal number t) h n o = absurd (none-th i n)
   then-asked k m own marks p e more zero (Pair c t) h n o = rw (← first-is n, ← first-is o) (asked p own c t h)
   then-asked k m own marks p e more (suc i) (Pair c t) h n o = asked-again (p .terms) c m e (more i (carried (ledBy (p .terms) c) (p .left - t)) n o)
 
-  asked-in-turn : (i k : ℕ) (marks : List Vector3) (p : Progress) (e : Entry) (m : Vector3) → Numbered (inTurn s k marks p .pairs) i e → Numbered marks i m → Asked (p .terms) m e
+  asked-in-turn : (i k : ℕ) (marks : List Vector3) (p : Progress) (e : Entry) (m : Vector3) → Nth (inTurn s k marks p .pairs) i e → Nth marks i m → Asked (p .terms) m e
   unfolding inTurn stepped
-  asked-in-turn i k [] p e m n o = absurd (none-numbered i n)
+  asked-in-turn i k [] p e m n o = absurd (none-th i n)
   asked-in-turn i k (own ∷ marks) p e m n o = then-asked k m own marks p e (λ j q. asked-in-turn j (k + 1) marks q e m) i (placed s own (p .terms) (p .left)) refl n o
+
+-- ---- and where it has marks at all, whatever its surface and terms: the tests at the start refuse as the first mark would be
+
+module _ (s : Surface) (mark : Vector3) (marks : List Vector3) (terms : Terms) (budget : ℕ) where
+  abbrev InTurn : Type 0
+  InTurn = rowed s (mark ∷ marks) terms budget ≡ inTurn s 0 (mark ∷ marks) (carried terms budget)
+
+  refused-first : (k : ℕ) → refusalOfSurface s ≡ suc k → InTurn
+  unfolding rowed orElse unlessRefused placed checked judged onChecked inTurn stepped stepBy andThen
+  refused-first k e = simp (e, sub-zero)
+
+  sound-first : refusalOfSurface s ≡ 0 → (t : Bool) → soundTerms terms ≡ t → InTurn
+  unfolding rowed orElse unlessRefused inTurn stepped stepBy andThen soundSearch
+  sound-first e false h =
+      let q : soundSearch mark terms ≡ false = simp (h, and-false) in
+      rw (seven s e mark terms budget q) (simp (e, h, sub-zero))
+  sound-first e true h = row-sound s (mark ∷ marks) terms budget e h
+
+  row-in-turn : InTurn
+  row-in-turn = by (refusalOfSurface s) refl
+    where
+      by : (k : ℕ) → refusalOfSurface s ≡ k → InTurn
+      by zero e = sound-first e (soundTerms terms) refl
+      by (suc k) e = refused-first k e
 
 -- ---- the marks of a row: that of the call, which is the row of its marks where any has an entry, or of a job
 
-pub call-row : (s : Surface) (coordinates : List Float) (numbers bytes : ℕ) (terms : Terms) (budget i : ℕ) (e : Entry) → Numbered (rowInto s coordinates numbers bytes terms budget .pairs) i e
+pub call-row : (s : Surface) (coordinates : List Float) (numbers bytes : ℕ) (terms : Terms) (budget i : ℕ) (e : Entry) → Nth (rowInto s coordinates numbers bytes terms budget .pairs) i e
     → rowInto s coordinates numbers bytes terms budget ≡ rowed s (marksOf coordinates) terms budget
 call-row s coordinates numbers bytes terms budget i e n = by (misfit (length coordinates) numbers bytes) refl
   where
     by : (t : Bool) → misfit (length coordinates) numbers bytes ≡ t → rowInto s coordinates numbers bytes terms budget ≡ rowed s (marksOf coordinates) terms budget
-    by true h = absurd (none-numbered i (rw (misfit-refused s coordinates numbers bytes terms budget h) at n))
+    by true h = absurd (none-th i (rw (misfit-refused s coordinates numbers bytes terms budget h) at n))
     by false h = row-fits s coordinates numbers bytes terms budget (fits (length coordinates) numbers bytes h)
 
 module _ (s : Surface) (marks : List Vector3) (terms : Terms) (budget : ℕ) {r : Rowed} (is : r ≡ rowed s marks terms budget) where
   -- "The first mark has the caller's hint or none."
-  pub first-asked : refusalOfSurface s ≡ 0 → soundTerms terms ≡ true → (m : Vector3) → Numbered marks 0 m → Answered r 0 budget (placed s m terms budget)
-  first-asked ok sound m o = answered-next s r [] 0 m (o .0) terms budget refl (is ∙ row-sound s marks terms budget ok sound ∙ ap (λ (ms : List Vector3). inTurn s 0 ms (carried terms budget)) (o .1))
+  pub first-asked : (m : Vector3) → Nth marks 0 m → Answered r 0 budget (placed s m terms budget)
+  first-asked m o =
+      let h : rowed s marks terms budget ≡ inTurn s 0 (m ∷ o .0) (carried terms budget) = rw (o .1) (row-in-turn s m (o .0) terms budget) in
+      answered-next s r [] 0 m (o .0) terms budget refl (is ∙ h)
+
+  -- one without marks ends with the budget, once its tests pass
+  pub no-marks : marks ≡ [] → refusalOfSurface s ≡ 0 → soundTerms terms ≡ true → r .ended ≡ RowEnd.Placed budget
+  unfolding inTurn
+  no-marks h ok sound = ap (λ (q : Rowed). q .ended) (is ∙ row-sound s marks terms budget ok sound ∙ ap (λ (ms : List Vector3). inTurn s 0 ms (carried terms budget)) h)
 
   -- where mark number i has an entry
-  module _ (i : ℕ) (e : Entry) (n : Numbered (r .pairs) i e) where
+  module _ (i : ℕ) (e : Entry) (n : Nth (r .pairs) i e) where
     pub tested : (refusalOfSurface s ≡ 0) × (soundTerms terms ≡ true)
     tested = passed s marks terms budget i (rw is at n)
 
     in-turn : r ≡ inTurn s 0 marks (carried terms budget)
     in-turn = is ∙ row-sound s marks terms budget (tested .0) (tested .1)
 
-    pub each-asked : (m : Vector3) → Numbered marks i m → Asked s (tested .0) terms m e
+    pub each-asked : (m : Vector3) → Nth marks i m → Asked s (tested .0) terms m e
     each-asked m o = asked-in-turn s (tested .0) i 0 marks (carried terms budget) e m (rw in-turn at n) o
 
     goes : r ≡ following (take (i + 1) (r .pairs)) (inTurn s (i + 1) (drop (i + 1) marks) (carried (ledBy terms (e .choice)) (e .left)))
@@ -233,33 +265,37 @@ module _ (s : Surface) (marks : List Vector3) (terms : Terms) (budget : ℕ) {r 
         let h = goes-on s i 0 marks (carried terms budget) e (rw in-turn at n) in
         rw in-turn (rw (z, y) at h)
 
-    next-asked : (t : Terms) → ledBy terms (e .choice) ≡ t → (m : Vector3) → Numbered marks (i + 1) m → Answered r (i + 1) (e .left) (placed s m t (e .left))
+    next-asked : (t : Terms) → ledBy terms (e .choice) ≡ t → (m : Vector3) → Nth marks (i + 1) m → Answered r (i + 1) (e .left) (placed s m t (e .left))
     next-asked t l m o =
-        let long = length-take-le (i + 1) (r .pairs) (omega (arith, numbered-inside (r .pairs) i n)) in
+        let long = length-take-le (i + 1) (r .pairs) (omega (arith, nth-inside (r .pairs) i n)) in
         answered-next s r (take (i + 1) (r .pairs)) (i + 1) m (o .0) t (e .left) long (rw (l, o .1) at goes)
 
     -- a mark off the shell is lost
-    pub off-shell : (m : Vector3) → Numbered marks i m → OffShell s m (terms .tolerance) → within (terms .tolerance) (e .choice .end) ≡ false
+    pub off-shell : (m : Vector3) → Nth marks i m → OffShell s m (terms .tolerance) → within (e .choice .end) (terms .tolerance) ≡ false
     off-shell m o off =
         let a = each-asked m o in
         rw (a .answer) at (off-shell-lost s m (withHint terms (a .hint)) off (a .budget))
 
-    module _ (close : within (terms .tolerance) (e .choice .end) ≡ true) where
-      -- "the preceding answer is the hint only if its run's end, before any shift by periods, lies within the tolerance"
-      pub kept-leads : (m : Vector3) → Numbered marks (i + 1) m → Answered r (i + 1) (e .left) (placed s m (withHint terms (At (uOf (e .choice)) (vOf (e .choice)))) (e .left))
+    -- where it is the last mark, the row ends with what it left
+    pub last-left : drop (i + 1) marks ≡ [] → r .ended ≡ RowEnd.Placed (e .left)
+    unfolding inTurn
+    last-left h = ap (λ (q : Rowed). q .ended) (rw h at goes)
+
+    -- "the preceding answer is the hint only if its run's end, before any shift by periods, lies within the tolerance; otherwise the next mark has none"
+    module _ (close : within (e .choice .end) (terms .tolerance) ≡ true) where
+      pub kept-leads : (m : Vector3) → Nth marks (i + 1) m → Answered r (i + 1) (e .left) (placed s m (withHint terms (At (uOf (e .choice)) (vOf (e .choice)))) (e .left))
       unfolding ledBy
       kept-leads = next-asked (withHint terms (At (uOf (e .choice)) (vOf (e .choice)))) (simp close)
 
       -- "An answer shifted to infinity makes the next mark's hint a 7"
-      pub kept-infinite : soundHint (At (uOf (e .choice)) (vOf (e .choice))) ≡ false → (m : Vector3) → Numbered marks (i + 1) m → (length (r .pairs) ≡ i + 1) × (r .ended ≡ RowEnd.Refusal 7 (i + 1) (e .left))
+      pub kept-infinite : soundHint (At (uOf (e .choice)) (vOf (e .choice))) ≡ false → (m : Vector3) → Nth marks (i + 1) m → (length (r .pairs) ≡ i + 1) × (r .ended ≡ RowEnd.Refusal 7 (i + 1) (e .left))
       unfolding soundSearch soundTerms
       kept-infinite h m o =
           let q : soundSearch m (withHint terms (At (uOf (e .choice)) (vOf (e .choice)))) ≡ false = simp (h, and-false) in
           rw (seven s (tested .0) m (withHint terms (At (uOf (e .choice)) (vOf (e .choice)))) (e .left) q, sub-zero (e .left)) at (kept-leads m o)
 
-    module _ (lost : within (terms .tolerance) (e .choice .end) ≡ false) where
-      -- "otherwise the next mark has none"
-      pub lost-leads-none : (m : Vector3) → Numbered marks (i + 1) m → Answered r (i + 1) (e .left) (placed s m (withHint terms Nothing) (e .left))
+    module _ (lost : within (e .choice .end) (terms .tolerance) ≡ false) where
+      pub lost-leads-none : (m : Vector3) → Nth marks (i + 1) m → Answered r (i + 1) (e .left) (placed s m (withHint terms Nothing) (e .left))
       unfolding ledBy
       lost-leads-none = next-asked (withHint terms Nothing) (simp lost)
 
@@ -281,36 +317,16 @@ unfoldable pub single : ℕ → Placing → Rowed
 single budget (Pair c taken) = record { pairs = record { choice = c; left = budget - taken } ∷ []; ended = RowEnd.Placed (budget - taken) }
 single budget (Refusal number taken) = refusedAt 0 number (budget - taken)
 
-module _ (s : Surface) (mark : Vector3) (terms : Terms) (budget : ℕ) where
-  in-turn-single : (g : Placing) → andThen 0 (inTurn s (0 + 1) []) (stepBy (carried terms budget) g) ≡ single budget g
-  unfolding andThen inTurn stepBy single
-  in-turn-single (Pair c taken) = refl
-  in-turn-single (Refusal number taken) = refl
-
-  abbrev IsSingle : Type 0
-  IsSingle = rowed s (mark ∷ []) terms budget ≡ single budget (placed s mark terms budget)
-
-  refused-single : (k : ℕ) → refusalOfSurface s ≡ suc k → IsSingle
-  unfolding rowed orElse unlessRefused placed checked judged onChecked single
-  refused-single k e = simp (e, sub-zero)
-
-  sound-single : refusalOfSurface s ≡ 0 → (t : Bool) → soundTerms terms ≡ t → IsSingle
-  unfolding rowed orElse unlessRefused inTurn stepped single soundSearch
-  sound-single e false h =
-      let q : soundSearch mark terms ≡ false = simp (h, and-false) in
-      rw (seven s e mark terms budget q) (simp (e, h, sub-zero))
-  sound-single e true h = row-sound s (mark ∷ []) terms budget e h ∙ in-turn-single (placed s mark terms budget)
-
-  rowed-single : IsSingle
-  rowed-single = by (refusalOfSurface s) refl
-    where
-      by : (k : ℕ) → refusalOfSurface s ≡ k → IsSingle
-      by zero e = sound-single e (soundTerms terms) refl
-      by (suc k) e = refused-single k e
+in-turn-single : (s : Surface) (terms : Terms) (budget : ℕ) (g : Placing) → andThen 0 (inTurn s (0 + 1) []) (stepBy (carried terms budget) g) ≡ single budget g
+unfolding andThen inTurn stepBy single
+in-turn-single s terms budget (Pair c taken) = refl
+in-turn-single s terms budget (Refusal number taken) = refl
 
 -- "For a single call nothing differs."
 pub single-unchanged : (s : Surface) (x y z : Float) (numbers bytes : ℕ) (terms : Terms) (budget : ℕ) → 2 ≤ numbers → 2 ≤ bytes
     → rowInto s (x ∷ y ∷ z ∷ []) numbers bytes terms budget ≡ single budget (placed s (record { x = x; y = y; z = z }) terms budget)
-unfolding marksOf
+unfolding marksOf inTurn stepped
 single-unchanged s x y z numbers bytes terms budget n b =
-    row-fits s (x ∷ y ∷ z ∷ []) numbers bytes terms budget (record { threes = refl; pairs = n; ends = b }) ∙ rowed-single s (record { x = x; y = y; z = z }) terms budget
+    let mark : Vector3 = record { x = x; y = y; z = z } in
+    row-fits s (x ∷ y ∷ z ∷ []) numbers bytes terms budget (record { threes = refl; pairs = n; ends = b })
+    ∙ row-in-turn s mark [] terms budget ∙ in-turn-single s terms budget (placed s mark terms budget)

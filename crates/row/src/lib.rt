@@ -1,4 +1,4 @@
-// A row of marks on one surface: an answer leads to the next mark, and one budget serves all.
+// A row of marks on one surface: an answer within the tolerance is the hint of the next mark, and one budget serves all.
 mod marks;
 
 use chart::Terms;

@@ -22,7 +22,7 @@ use Rattle.row_step.specs.Step.{withHint, ledBy, stepBy, stepped}
 
 -- ---- the hint of the next mark
 
-module _ (t : Terms) (c : Choice) {b : Bool} (e : b ≡ within (t .tolerance) (c .end)) {r : Terms} where
+module _ (t : Terms) (c : Choice) {b : Bool} (e : b ≡ within (c .end) (t .tolerance)) {r : Terms} where
   pub leads : b ≡ true → r ≡ withHint t (At (c .end .at .u) (c .end .at .v)) → r ≡ ledBy t c
   unfolding ledBy
   leads h q = q ∙ simp (← e, h)

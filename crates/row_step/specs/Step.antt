@@ -20,7 +20,7 @@ withHint t h = record { hint = h; tolerance = t .tolerance; u = t .u; v = t .v }
 
 -- "the preceding answer is the hint only if its run's end, before any shift by periods, lies within the tolerance; otherwise the next mark has none": the shift moves the pair and leaves its distance
 unfoldable pub ledBy : Terms → Choice → Terms
-ledBy t c = withHint t (cond (within (t .tolerance) (c .end)) (At (c .end .at .u) (c .end .at .v)) Nothing)
+ledBy t c = withHint t (cond (within (c .end) (t .tolerance)) (At (c .end .at .u) (c .end .at .v)) Nothing)
 
 -- and the budget serves on
 unfoldable pub stepBy : Progress → Placing → Stepped

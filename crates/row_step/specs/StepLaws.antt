@@ -6,9 +6,11 @@ use native.Mathlib.Omega.{arith}
 use lib.Ieee.{Float, le, isNan}
 use Rattle.vector3.specs.declared.Vector3.{Vector3}
 use Rattle.patch.specs.declared.Jet.{Jet}
-use Rattle.patch.specs.declared.Evaluated.the-variants.{Found}
+use Rattle.patch.specs.declared.Evaluated.the-variants as Eval
 use Rattle.patch.specs.Patch.{fromMark}
-use Rattle.surface.specs.Surface.{Surface, axisU, axisV, scaleOf, evaluateBy, domainOf}
+use Rattle.surface.specs.declared.Evaluation.the-variants.{Found}
+use Rattle.surface.specs.Surface.{Surface, axisU, axisV, scaleOf, refusalOfSurface, evaluateBy, evaluated, domainOf}
+use Rattle.surface.specs.NumberLaws.{evaluate-found}
 use Rattle.surface.specs.SurfaceLaws.{checked-scale}
 use Rattle.grid.specs.Axis.{valuesOf}
 use Rattle.newton.specs.declared.Iterate.{Iterate}
@@ -83,19 +85,19 @@ module _ (s : Surface) (mark : Vector3) (p : Progress) (free : Unshifted (p .ter
 
 -- ---- a mark that is off the shell is lost
 
--- no point of the surface that an evaluation finds lies within the tolerance of the mark
+-- no point that `surface::evaluate` answers lies within the tolerance of the mark
 abbrev pub OffShell : Surface → Vector3 → Float → Type 0
-OffShell s mark tolerance = (u v : Float) (j : Jet) → evaluateBy s (scaleOf s) u v ≡ Found j → le (fromMark mark j) tolerance ≡ false
+OffShell s mark tolerance = (u v : Float) (j : Jet) → evaluated s u v ≡ Found j → le (fromMark mark j) tolerance ≡ false
 
 abbrev pub Lost : Float → Placing → Type 0
-Lost tolerance (Placing.Pair c n) = within tolerance (c .end) ≡ false
+Lost tolerance (Placing.Pair c n) = within (c .end) tolerance ≡ false
 Lost tolerance (Placing.Refusal number n) = Unit {0}
 
 module _ (s : Surface) (mark : Vector3) (terms : Terms) (off : OffShell s mark (terms .tolerance)) where
-  reached-far : (m : Float) → m ≡ scaleOf s → (p : Iterate) → Reached (domainOf s) mark (evaluateBy s m) p → le (p .distance) (terms .tolerance) ≡ false
+  reached-far : (m : Float) → (refusalOfSurface s ≡ 0) × (m ≡ scaleOf s) → (p : Iterate) → Reached (domainOf s) mark (evaluateBy s m) p → le (p .distance) (terms .tolerance) ≡ false
   reached-far m e p r =
-      let f : evaluateBy s (scaleOf s) (p .u) (p .v) ≡ Found (r .jet) = rw (← e) (r .found) in
-      rw (r .distance) (off (p .u) (p .v) (r .jet) f)
+      let f : evaluateBy s (scaleOf s) (p .u) (p .v) ≡ Eval.Found (r .jet) = rw (← e .1) (r .found) in
+      rw (r .distance) (off (p .u) (p .v) (r .jet) (evaluate-found s (p .u) (p .v) (r .jet) .1 (e .0, f)))
 
   pub off-shell-lost : (budget : ℕ) → Lost (terms .tolerance) (placed s mark terms budget)
   unfolding inversionBy
@@ -108,5 +110,5 @@ module _ (s : Surface) (mark : Vector3) (terms : Terms) (off : OffShell s mark (
         nine = λ n l. tt;
         pair = λ m k c n l w.
             let r = rw w at (pair-held (domainOf s) mark (evaluateBy s m) (valuesOf (axisU s)) (valuesOf (axisV s)) (terms .hint) (terms .tolerance)) in
-            rw (same-distance (terms .hint) (terms .u) (terms .v) (c .end .at)) (reached-far m (checked-scale s m k .1) (c .end .at) r);
+            rw (same-distance (terms .hint) (terms .u) (terms .v) (c .end .at)) (reached-far m (checked-scale s m k) (c .end .at) r);
       })

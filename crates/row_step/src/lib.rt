@@ -37,7 +37,7 @@ fn with_hint(terms: Terms, hint: Hint) -> Terms
     }
 }
 
-// A lost mark does not lead the next. The shift by periods, which the answer is after, left the distance as it was.
+// A lost mark does not lead the next. The distance is that before the shift by periods, which moves the pair alone.
 fn led_by(terms: Terms, choice: Choice) -> Terms
     ensures { λ r. ⌜ r ≡ ledBy terms choice ⌝ }
 {

@@ -133,8 +133,8 @@ fn tolerance(r: &mut Random, surface: &Surface, marks: &[f64], search: Search) -
     }
 }
 
-/// A mark's distance in a row whose tolerance is that distance, where four tries find it: the
-/// tolerance decides on hints, and so on distances.
+/// A mark's distance in a row whose tolerance is that distance, where four tries find it, and else
+/// the last one tried: the tolerance decides on hints, and so on distances.
 fn met(surface: &Surface, marks: &[f64], mut search: Search, at: usize) -> Option<f64> {
     for _ in 0..4 {
         let mut distances = Vec::new();
