@@ -12,10 +12,11 @@ use Rattle.price.specs.PriceLaws.{after-price, after-none, after-after, then-le
 use Rattle.domain.specs.declared.Domain.{Domain}
 use Rattle.surface.specs.Surface.{Surface, axisU, axisV, evaluateBy, domainOf}
 use Rattle.newton.specs.declared.End.{End}
+use Rattle.newton.specs.declared.Finished.{Finished}
 use Rattle.newton.specs.declared.Outcome.{Outcome}
 use Rattle.newton.specs.declared.Outcome.the-variants.{Ended, Refused, Spent}
-use Rattle.newton.specs.Run.{run, outcomeOf}
-use Rattle.newton.specs.OutcomeLaws.{spent-back, refused-back, ended-back}
+use Rattle.newton.specs.Run.{finished, run, outcomeOf}
+use Rattle.newton.specs.OutcomeLaws.{run-spent, run-refused, run-ended}
 use Rattle.grid.specs.declared.Values.{Values}
 use Rattle.shortlist.specs.declared.Start.{Start}
 use Rattle.seeds.specs.declared.Walked.{Walked}
@@ -93,7 +94,7 @@ module _ (s : Surface) (m : Float) (mark : Vector3) (hint : Hint) (tolerance : F
   unfolding inversionBy plainSteps
   unhinted f e = e ∙ rw (f, after-none (exploredOn s m mark Nothing 0))
 
-  module _ (d : Domain) (g : d ≡ domainOf s) (u v : Float) (f : hint ≡ Hint.At u v) {o : Outcome} (e : o ≡ outcomeOf (spend budget (run d mark (evaluateBy s m) u v))) where
+  module _ (d : Domain) (g : d ≡ domainOf s) (u v : Float) (f : hint ≡ Hint.At u v) {o : Outcome} (e : o ≡ outcomeOf (spend budget (finished d mark (evaluateBy s m) u v))) where
     abbrev afterRun : Priced End → Priced Choice
     afterRun r = hinted (domainOf s) mark (evaluateBy s m) (valuesOf (axisU s)) (valuesOf (axisV s)) tolerance r
 
@@ -112,26 +113,26 @@ module _ (s : Surface) (m : Float) (mark : Vector3) (hint : Hint) (tolerance : F
         by false = omega (arith, after-price k (exploredOn s m mark (At (ofHint a)) k))
 
     pub hint-spent : o ≡ Spent → Answer.Spent ≡ answer
-    hint-spent z = too-dear budget _ (rw by-run (omega (arith, spent-back budget _ e z, hinted-least (run d mark (evaluateBy s m) u v))))
+    hint-spent z = too-dear budget _ (rw by-run (omega (arith, run-spent d mark (evaluateBy s m) u v budget e z, hinted-least (run d mark (evaluateBy s m) u v))))
 
     pub hint-refused : (k : ℕ) → o ≡ Refused k → Answer.Refused k ≡ answer
     unfolding hinted
     hint-refused k z =
-        let p = refused-back budget _ e k z in
+        let p = run-refused d mark (evaluateBy s m) u v budget e k z in
         rw (by-run, p .0) (refusal-told budget k (p .1))
 
-    module _ (a : End) (k : ℕ) (ended : o ≡ Ended a k) where
+    module _ (a : Finished) (k : ℕ) (ended : o ≡ Ended a k) where
       pub hint-fits : k ≤ budget
-      hint-fits = ended-back budget _ e a k ended .1
+      hint-fits = run-ended d mark (evaluateBy s m) u v budget e a k ended .1
 
-      weighed : inversionBy s m mark hint tolerance ≡ unlessClose (domainOf s) mark (evaluateBy s m) (valuesOf (axisU s)) (valuesOf (axisV s)) (within a tolerance) a k
+      weighed : inversionBy s m mark hint tolerance ≡ unlessClose (domainOf s) mark (evaluateBy s m) (valuesOf (axisU s)) (valuesOf (axisV s)) (within (a .end) tolerance) (a .end) k
       unfolding hinted
-      weighed = by-run ∙ rw (ended-back budget _ e a k ended .0)
+      weighed = by-run ∙ rw (run-ended d mark (evaluateBy s m) u v budget e a k ended .0)
 
-      pub hint-close : within a tolerance ≡ true → Answer.Chosen (ofHint a) k ≡ answer
+      pub hint-close : within (a .end) tolerance ≡ true → Answer.Chosen (ofHint (a .end)) k ≡ answer
       unfolding unlessClose
-      hint-close t = rw (weighed, t) (chosen-told budget (ofHint a) k hint-fits)
+      hint-close t = rw (weighed, t) (chosen-told budget (ofHint (a .end)) k hint-fits)
 
-      pub hint-far : within a tolerance ≡ false → {r : Answer} → r ≡ answerOf (spend budget (after k (exploredOn s m mark (At (ofHint a)) k))) → r ≡ answer
+      pub hint-far : within (a .end) tolerance ≡ false → {r : Answer} → r ≡ answerOf (spend budget (after k (exploredOn s m mark (At (ofHint (a .end))) k))) → r ≡ answer
       unfolding unlessClose
       hint-far t h = h ∙ rw (weighed, t)

@@ -15,10 +15,11 @@ use Rattle.price.specs.PriceLaws.{spend-enough, spend-short, after-price, after
 use Rattle.patch.specs.declared.Evaluated.{Evaluated}
 use Rattle.domain.specs.declared.Domain.{Domain}
 use Rattle.newton.specs.declared.End.{End}
+use Rattle.newton.specs.declared.Finished.{Finished}
 use Rattle.newton.specs.declared.Outcome.{Outcome}
 use Rattle.newton.specs.declared.Outcome.the-variants.{Ended, Refused, Spent}
-use Rattle.newton.specs.Run.{run, outcomeOf}
-use Rattle.newton.specs.OutcomeLaws.{spent-back, refused-back, ended-back}
+use Rattle.newton.specs.Run.{finished, run, outcomeOf}
+use Rattle.newton.specs.OutcomeLaws.{run-spent, run-refused, run-ended}
 use Rattle.shortlist.specs.declared.Start.{Start}
 use Rattle.shortlist.specs.FirstSix.{startAt}
 use Rattle.inversion.specs.declared.Choice.{Choice}
@@ -96,6 +97,9 @@ module _ (d : Domain) (mark : Vector3) (eval : Float → Float → Evaluated) wh
   abbrev runFrom : Start → Priced End
   runFrom s = run d mark eval (s .u) (s .v)
 
+  abbrev runs-by : ℕ → Start → Outcome
+  runs-by budget s = outcomeOf (spend budget (finished d mark eval (s .u) (s .v)))
+
   -- the run from the start in place i, and those after it
   module _ (b : Best) (k i : ℕ) (s : Start) (ss : List Start) where
     run-least : price (runFrom s) ≤ price (searched d mark eval b k i (s ∷ ss))
@@ -135,7 +139,7 @@ module _ (d : Domain) (mark : Vector3) (eval : Float → Float → Evaluated) wh
         let q : length (take count at) ≤ i = omega (arith, length-take-le count at (s .fit)) in
         e ∙ ap (λ (p : Priced Choice). answerOf (spend budget p)) (sym (s .whole ∙ ap (after n) (ap (searched d mark eval b k (i + 1)) (drop-of-length-le (take count at) q) ∙ after-none (choose k (led b [])))))
 
-    module _ (l : i < count) {o : Outcome} (e : o ≡ outcomeOf (spend (budget - n) (runFrom (getD at i none)))) where
+    module _ (l : i < count) {o : Outcome} (e : o ≡ runs-by (budget - n) (getD at i none)) where
       abbrev rest : List Start
       rest = drop (i + 1) (take count at)
 
@@ -146,25 +150,25 @@ module _ (d : Domain) (mark : Vector3) (eval : Float → Float → Evaluated) wh
 
       pub search-spent : o ≡ Spent → Answer.Spent ≡ answerOf (spend budget a)
       search-spent f =
-          too-dear budget a (rw next (omega (arith, spent-back (budget - n) _ e f, run-least b k (i + 1) (getD at i none) rest, after-price n (searched d mark eval b k (i + 1) (getD at i none ∷ rest)))))
+          too-dear budget a (rw next (omega (arith, run-spent d mark eval _ _ (budget - n) e f, run-least b k (i + 1) (getD at i none) rest, after-price n (searched d mark eval b k (i + 1) (getD at i none ∷ rest)))))
 
       pub run-fits : (m : ℕ) → o ≡ Refused m → n + m ≤ budget
-      run-fits m f = omega (arith, s .within, refused-back (budget - n) _ e m f)
+      run-fits m f = omega (arith, s .within, run-refused d mark eval _ _ (budget - n) e m f)
 
       pub search-refused : (m : ℕ) → o ≡ Refused m → Answer.Refused (n + m) ≡ answerOf (spend budget a)
       unfolding after
       search-refused m f =
-          let p = refused-back (budget - n) _ e m f in
+          let p = run-refused d mark eval _ _ (budget - n) e m f in
           rw (next, run-refuses b k (i + 1) (getD at i none) rest m (p .0)) (refusal-told budget (n + m) (run-fits m f))
 
-      pub end-fits : (c : End) (m : ℕ) → o ≡ Ended c m → n + m ≤ budget
-      end-fits c m f = omega (arith, s .within, ended-back (budget - n) _ e c m f)
+      pub end-fits : (c : Finished) (m : ℕ) → o ≡ Ended c m → n + m ≤ budget
+      end-fits c m f = omega (arith, s .within, run-ended d mark eval _ _ (budget - n) e c m f)
 
-      pub search-goes : (c : End) (m : ℕ) → o ≡ Ended c m → {b' : Best} → b' ≡ kept b (record { end = c; origin = i + 1 }) → Stands a at count budget k (n + m) b' (i + 1)
+      pub search-goes : (c : Finished) (m : ℕ) → o ≡ Ended c m → {b' : Best} → b' ≡ kept b (record { end = c .end; origin = i + 1 }) → Stands a at count budget k (n + m) b' (i + 1)
       search-goes c m f g =
-          let p = ended-back (budget - n) _ e c m f in
+          let p = run-ended d mark eval _ _ (budget - n) e c m f in
           record {
             fit = s .fit;
             within = end-fits c m f;
-            whole = next ∙ ap (after n) (run-ends b k (i + 1) (getD at i none) rest c m (p .0)) ∙ after-after n m _ ∙ rw (g, add-one (i + 1));
+            whole = next ∙ ap (after n) (run-ends b k (i + 1) (getD at i none) rest (c .end) m (p .0)) ∙ after-after n m _ ∙ rw (g, add-one (i + 1));
           }

@@ -79,7 +79,8 @@ pub fn invert_nurbs(
     match run(accepted, ku, kv, controls, weights, mark, u, v, budget) {
         Outcome::Spent => Answer::Spent,
         Outcome::Refused(taken) => Answer::Refused(taken),
-        Outcome::Ended(end, taken) => {
+        Outcome::Ended(finished, taken) => {
+            let end = finished.end;
             let choice = Choice { end, origin: 0 };
             if within(end, tolerance) {
                 return Answer::Chosen(choice, taken);

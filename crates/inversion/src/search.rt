@@ -79,7 +79,8 @@ pub(crate) fn search(
         ) {
             Outcome::Spent => return Answer::Spent,
             Outcome::Refused(units) => return Answer::Refused(taken + units),
-            Outcome::Ended(end, units) => {
+            Outcome::Ended(finished, units) => {
+                let end = finished.end;
                 let origin = (i + 1) as u8;
                 best = keep(best, Choice { end, origin });
                 taken += units;

@@ -13,9 +13,10 @@ use Rattle.patch.specs.declared.Jet.{Jet}
 use Rattle.patch.specs.declared.Evaluated.{Evaluated}
 use Rattle.patch.specs.declared.Evaluated.the-variants as Eval
 use Rattle.domain.specs.declared.Domain.{Domain}
+use Rattle.newton.specs.declared.Measured.{Measured}
 use Rattle.newton.specs.declared.Ending.{Ending}
 use Rattle.newton.specs.declared.Ending.the-variants as Ending
-use Rattle.newton.specs.declared.End.{End}
+use Rattle.newton.specs.declared.Finished.{Finished}
 use Rattle.newton.specs.declared.Held.{Held}
 use Rattle.newton.specs.declared.Plan.{Plan}
 use Rattle.newton.specs.declared.Plan.the-variants.{Halt, Probe}
@@ -25,24 +26,25 @@ use Rattle.newton.specs.declared.Outcome.{Outcome}
 use Rattle.newton.specs.declared.Outcome.the-variants.{Ended, Refused, Spent}
 use Rattle.newton.specs.declared.Turn.{Turn}
 use Rattle.newton.specs.declared.Turn.the-variants.{Over, Onto}
-use Rattle.newton.specs.Run.{plan, judge, Round, over, onto, follow, endAt, held, settle, weigh, pursue, round, rounds, outcomeOf, turnOf}
+use Rattle.newton.specs.Run.{plan, judge, Round, over, onto, follow, finish, measured, held, next, settle, weigh, pursue, round, rounds, outcomeOf, turnOf}
 use Rattle.newton.specs.RunLaws.{rounds-count}
 use Rattle.newton.specs.OutcomeLaws.{ended-told, refused-told, short-told}
+use Rattle.newton.specs.RootLaws.{onto-rooted}
 
 -- ---- a round
 
 -- that evaluates with no unit left
 module _ (d : Domain) (mark : Vector3) (budget n : ℕ) (h : Held) (over-budget : budget < n + 1) where
-  settle-spent : (next : Held) (v : Verdict) → Over Spent ≡ turnOf budget n (settle d mark h (n + 1) next v)
+  settle-spent : (to : Held) (v : Verdict) → Over Spent ≡ turnOf budget n (settle d mark h (n + 1) to v)
   unfolding settle turnOf
-  settle-spent next Further = ap Over (short-told budget (answered (endAt (h .at) Ending.Further) (n + 1)) over-budget)
-  settle-spent next Last = ap Over (short-told budget (answered (endAt (next .at) Ending.SmallStep) (n + 1)) over-budget)
-  settle-spent next Onward = simp (lt-leb (suc n) budget (omega arith))
+  settle-spent to Further = ap Over (short-told budget (answered (finish (h .at) Ending.Further (to .roots)) (n + 1)) over-budget)
+  settle-spent to Last = ap Over (short-told budget (answered (finish (to .at) Ending.SmallStep (to .roots)) (n + 1)) over-budget)
+  settle-spent to Onward = simp (lt-leb (suc n) budget (omega arith))
 
   weigh-spent : (c : Bool) (u v : Float) (e : Evaluated) → Over Spent ≡ turnOf budget n (weigh d mark h (n + 1) c u v e)
   unfolding weigh turnOf
   weigh-spent c u v Eval.Refused = ap Over (short-told budget (refused (n + 1)) over-budget)
-  weigh-spent c u v (Eval.Found j) = settle-spent (held mark (h .nudged || c) u v j) _
+  weigh-spent c u v (Eval.Found j) = settle-spent (next mark h c u v j) _
 
 module _ (d : Domain) (mark : Vector3) (eval : Float → Float → Evaluated) (budget : ℕ) (h : Held) (n : ℕ) (within : n ≤ budget) where
   abbrev pub turn : Turn
@@ -53,9 +55,9 @@ module _ (d : Domain) (mark : Vector3) (eval : Float → Float → Evaluated) (b
     unfolding round
     planned = rw w
 
-    pub halted : (how : Ending) → p ≡ Halt how → Over (Ended (endAt (h .at) how) n) ≡ turn
+    pub halted : (how : Ending) → p ≡ Halt how → {o : Outcome} → o ≡ Ended (finish (h .at) how (h .roots)) n → Over o ≡ turn
     unfolding pursue turnOf
-    halted how f = rw (planned, f) (ap Over (ended-told budget (endAt (h .at) how) n within))
+    halted how f e = rw (planned, f) (ap Over (e ∙ ended-told budget (finish (h .at) how (h .roots)) n within))
 
     module _ (c : Bool) (u v : Float) (f : p ≡ Probe c u v) where
       probed : round d mark eval n h ≡ weigh d mark h (n + 1) c u v (eval u v)
@@ -70,29 +72,33 @@ module _ (d : Domain) (mark : Vector3) (eval : Float → Float → Evaluated) (b
         unfolding weigh turnOf
         unfound z = rw (probed, ← g, z) (ap Over (refused-told budget (n + 1) (omega arith)))
 
-        module _ (j : Jet) (z : a ≡ Eval.Found j) (next : Held) (l : next ≡ held mark (h .nudged || c) u v j) {t : Verdict} (s : t ≡ judge d (h .at) c (next .at)) where
-          judged : round d mark eval n h ≡ settle d mark h (n + 1) next t
-          unfolding weigh
-          judged = probed ∙ rw (← g, z, s, l)
+        module _ (j : Jet) (z : a ≡ Eval.Found j) (m : Measured) (l : m ≡ measured mark j (h .roots)) where
+          abbrev to : Held
+          to = held m (h .nudged || c) u v j
 
-          pub further : t ≡ Further → Over (Ended (endAt (h .at) Ending.Further) (n + 1)) ≡ turn
-          unfolding settle turnOf
-          further q = rw (judged, q) (ap Over (ended-told budget (endAt (h .at) Ending.Further) (n + 1) (omega arith)))
+          module _ {t : Verdict} (s : t ≡ judge d (h .at) c (to .at)) where
+            judged : round d mark eval n h ≡ settle d mark h (n + 1) to t
+            unfolding weigh
+            judged = probed ∙ rw (← g, z, s, l)
 
-          pub last : t ≡ Last → Over (Ended (endAt (next .at) Ending.SmallStep) (n + 1)) ≡ turn
-          unfolding settle turnOf
-          last q = rw (judged, q) (ap Over (ended-told budget (endAt (next .at) Ending.SmallStep) (n + 1) (omega arith)))
+            pub further : t ≡ Further → {o : Outcome} → o ≡ Ended (finish (h .at) Ending.Further (m .roots)) (n + 1) → Over o ≡ turn
+            unfolding settle turnOf
+            further q e = rw (judged, q) (ap Over (e ∙ ended-told budget (finish (h .at) Ending.Further (m .roots)) (n + 1) (omega arith)))
 
-          pub onward : t ≡ Onward → Onto next ≡ turn
-          unfolding settle turnOf
-          onward q = rw (judged, q, le-leb (suc n) budget (omega arith))
+            pub last : t ≡ Last → {o : Outcome} → o ≡ Ended (finish (to .at) Ending.SmallStep (m .roots)) (n + 1) → Over o ≡ turn
+            unfolding settle turnOf
+            last q e = rw (judged, q) (ap Over (e ∙ ended-told budget (finish (to .at) Ending.SmallStep (m .roots)) (n + 1) (omega arith)))
+
+            pub onward : t ≡ Onward → Onto to ≡ turn
+            unfolding settle turnOf
+            onward q = rw (judged, q, le-leb (suc n) budget (omega arith))
 
 -- ---- the rounds
 
 module _ (d : Domain) (mark : Vector3) (eval : Float → Float → Evaluated) (budget : ℕ) where
   -- what holds of the run r as it holds h after n evaluations
-  abbrev pub Kept : Priced End → Held → ℕ → Type 0
-  Kept r h n = (n ≤ 33) × (n ≤ budget) × (r ≡ rounds d mark eval (33 - n) n h)
+  abbrev pub Kept : Priced Finished → Held → ℕ → Type 0
+  Kept r h n = (n ≤ 33) × (n ≤ budget) × (h .roots ≡ n) × (r ≡ rounds d mark eval (33 - n) n h)
 
   over-spend : (k n : ℕ) (q : Round) (o : Outcome) → Over o ≡ turnOf budget n q → o ≡ outcomeOf (spend budget (follow (rounds d mark eval k (n + 1)) q))
   unfolding turnOf follow
@@ -106,33 +112,34 @@ module _ (d : Domain) (mark : Vector3) (eval : Float → Float → Evaluated) (b
           let above = rounds-count d mark eval k (n + 1) h .above in
           s ∙ short-told budget _ (omega (arith, leb-false (suc n) budget q))
 
-  onto-goes : (rest : Held → Priced End) (n : ℕ) (q : Round) (h : Held) → Onto h ≡ turnOf budget n q → (n < budget) × (follow rest q ≡ rest h)
-  unfolding turnOf follow
-  onto-goes rest n (over r) h e = absurd (let z : _≡_ {A = ℕ} 0 1 = cc in omega arith)
-  onto-goes rest n (onto g) h e = by (leb (suc n) budget) refl e
+  onto-goes : (n : ℕ) (q : Round) (h : Held) → Onto h ≡ turnOf budget n q → (n < budget) × (q ≡ onto h)
+  unfolding turnOf
+  onto-goes n (over r) h e = absurd (let z : _≡_ {A = ℕ} 0 1 = cc in omega arith)
+  onto-goes n (onto g) h e = by (leb (suc n) budget) refl e
     where
-      by : (t : Bool) → leb (suc n) budget ≡ t → Onto h ≡ cond t (Onto g) (Over Spent) → (n < budget) × (rest g ≡ rest h)
-      by true q p = let s : g ≡ h = cc in (omega (arith, leb-true (suc n) budget q), ap rest s)
+      by : (t : Bool) → leb (suc n) budget ≡ t → Onto h ≡ cond t (Onto g) (Over Spent) → (n < budget) × (onto g ≡ onto h)
+      by true q p = let s : g ≡ h = cc in (omega (arith, leb-true (suc n) budget q), ap onto s)
       by false q p = absurd (let z : _≡_ {A = ℕ} 0 1 = cc in omega arith)
 
-  module _ (r : Priced End) (h : Held) (n : ℕ) (kept : Kept r h n) where
-    pub full : 33 ≤ n → Ended (endAt (h .at) Ending.AllRounds) n ≡ outcomeOf (spend budget r)
+  module _ (r : Priced Finished) (h : Held) (n : ℕ) (kept : Kept r h n) where
+    pub full : 33 ≤ n → {o : Outcome} → o ≡ Ended (finish (h .at) Ending.AllRounds (h .roots)) n → o ≡ outcomeOf (spend budget r)
     unfolding rounds
-    full z =
+    full z e =
         let none : 33 - n ≡ 0 = omega arith in
-        rw (kept .2, none) (ended-told budget (endAt (h .at) Ending.AllRounds) n (kept .1))
+        e ∙ rw (kept .3, none) (ended-told budget (finish (h .at) Ending.AllRounds (h .roots)) n (kept .1))
 
     module _ (short : n < 33) {t : Turn} (w : t ≡ turn d mark eval budget h n (kept .1)) where
       more : r ≡ follow (rounds d mark eval (33 - (n + 1)) (n + 1)) (round d mark eval n h)
       unfolding rounds
       more =
           let one : 33 - n ≡ suc (33 - (n + 1)) = omega arith in
-          kept .2 ∙ rw one (rw (add-one n))
+          kept .3 ∙ rw one (rw (add-one n))
 
       pub ended : (o : Outcome) → t ≡ Over o → o ≡ outcomeOf (spend budget r)
-      ended o f = over-spend _ n _ o (sym f ∙ w) ∙ ap (λ (q : Priced End). outcomeOf (spend budget q)) (sym more)
+      ended o f = over-spend _ n _ o (sym f ∙ w) ∙ ap (λ (q : Priced Finished). outcomeOf (spend budget q)) (sym more)
 
-      pub goes : (next : Held) → t ≡ Onto next → Kept r next (n + 1)
-      goes next f =
-          let on = onto-goes (rounds d mark eval (33 - (n + 1)) (n + 1)) n _ next (sym f ∙ w) in
-          (omega arith, omega arith, more ∙ on .1)
+      pub goes : (to : Held) → t ≡ Onto to → Kept r to (n + 1)
+      unfolding follow
+      goes to f =
+          let on = onto-goes n _ to (sym f ∙ w) in
+          (omega arith, omega (arith, on .0), rw (add-one n) (onto-rooted d mark eval n h to (kept .2) (on .1)), more ∙ rw (on .1))

@@ -9,7 +9,7 @@ use lib.Ieee.{Float, lt, eq}
 use Rattle.float64.specs.Operators.{_⊕_}
 use Rattle.vector3.specs.declared.Vector3.{Vector3}
 use Rattle.price.specs.Price.{Priced, answered}
-use Rattle.price.specs.PriceLaws.{Answers}
+use Rattle.price.specs.PriceLaws.{Answers, mapped-answers}
 use Rattle.price.specs.Evaluations.{Pair}
 use Rattle.patch.specs.declared.Jet.{Jet}
 use Rattle.patch.specs.declared.Evaluated.{Evaluated}
@@ -20,14 +20,15 @@ use Rattle.newton.specs.declared.Iterate.{Iterate}
 use Rattle.newton.specs.declared.Ending.{Ending}
 use Rattle.newton.specs.declared.Ending.the-variants.{Unchanged, Further, SmallStep, SecondSingular, AllRounds}
 use Rattle.newton.specs.declared.End.{End}
+use Rattle.newton.specs.declared.Finished.{Finished}
 use Rattle.newton.specs.declared.Held.{Held}
 use Rattle.newton.specs.declared.Step.the-variants.{Singular, By}
 use Rattle.newton.specs.declared.Plan.{Plan}
 use Rattle.newton.specs.declared.Plan.the-variants.{Halt, Probe}
 use Rattle.newton.specs.declared.Verdict.{Verdict}
 use Rattle.newton.specs.declared.Verdict.the-variants as Verdict
-use Rattle.newton.specs.Run.{stepOf, clampInto, inward, isSmallStep, plan, judge, onto, held, round, run, nudgesOn, nudgesIn, nudgesFrom, nudges, endingNumber}
-use Rattle.newton.specs.RunLaws.{Reached, Planned, settled, stuck, steps, nudge, next, halts, refuses, returns, lands, goes, Carries, by-run, Clamped, planned-clamped, judge-told}
+use Rattle.newton.specs.Run.{stepOf, clampInto, inward, isSmallStep, plan, judge, onto, finish, begun, next, round, finished, run, nudgesOn, nudgesIn, nudgesFrom, nudges, endingNumber}
+use Rattle.newton.specs.RunLaws.{Reached, Planned, settled, stuck, steps, nudge, halts, refuses, returns, lands, goes, Carries, by-run, Clamped, planned-clamped, judge-told}
 use Rattle.newton.specs.Visits.{ifOnward, visitsPast, visitsOn, visitsIn, visitsFrom, visits}
 
 kept : (f c rest n : Bool) → (f || cond (f || c) true rest) ≡ n → ((f || c) || rest) ≡ n
@@ -145,8 +146,8 @@ module _ (d : Domain) (mark : Vector3) (eval : Float → Float → Evaluated) wh
     Meant SecondSingular p n = EndsSingular (visits d mark eval u v) p × (nudges d mark eval u v ≡ true)
     Meant AllRounds p n = EndsRounds (visits d mark eval u v) p × (n ≡ 33)
 
-    abbrev Means : Priced End → Type 0
-    Means r = Answers (λ e n. Meant (e .ending) (e .at) n) r
+    abbrev Means : Priced Finished → Type 0
+    Means r = Answers (λ f n. Meant (f .end .ending) (f .end .at) n) r
 
     -- with k rounds to go after n evaluations
     record Going (k n : ℕ) (h : Held) : Type 0 where
@@ -169,7 +170,7 @@ module _ (d : Domain) (mark : Vector3) (eval : Float → Float → Evaluated) wh
     counted : (ps earlier : List Pair) (p : Pair) (n : ℕ) → ps ≡ earlier ++ (p ∷ []) → suc (length earlier) ≡ n → length ps ≡ n
     counted ps earlier p n e k = rw e (rw length-append (omega (arith, k)))
 
-    done : (n : ℕ) (h : Held) → Going 0 n h → Means (answered (record { at = h .at; ending = AllRounds }) n)
+    done : (n : ℕ) (h : Held) → Going 0 n h → Means (answered (finish (h .at) AllRounds (h .roots)) n)
     unfolding visitsIn
     done n h g =
         let full : n ≡ 33 = omega (arith, g .rounds) in
@@ -240,7 +241,7 @@ module _ (d : Domain) (mark : Vector3) (eval : Float → Float → Evaluated) wh
 
       module _ (c : Bool) (a b : Float) (j : Jet) (l : Planned d mark eval h (Probe c a b)) (w : plan d mark h ≡ Probe c a b) (p : eval a b ≡ Found j) where
         abbrev to : Held
-        to = next d mark eval h c a b j
+        to = next mark h c a b j
 
         to-reached : Reached d mark eval (to .at)
         to-reached =
@@ -343,7 +344,7 @@ module _ (d : Domain) (mark : Vector3) (eval : Float → Float → Evaluated) wh
     one k n h g p w l r e (lands c a b j f q) = lands-meant k n h g c a b j l w f q
     one k n h g p w l r e (goes c a b j f q) = goes-on k n h g c a b j l w f q e
 
-    first : (j : Jet) → eval (clampInto (d .u) u) (clampInto (d .v) v) ≡ Found j → Going 32 1 (held mark false (clampInto (d .u) u) (clampInto (d .v) v) j)
+    first : (j : Jet) → eval (clampInto (d .u) u) (clampInto (d .v) v) ≡ Found j → Going 32 1 (begun mark (clampInto (d .u) u) (clampInto (d .v) v) j)
     unfolding visits visitsFrom nudges nudgesFrom
     first j p = record {
       clamped = (u, v, refl, refl);
@@ -358,8 +359,9 @@ module _ (d : Domain) (mark : Vector3) (eval : Float → Float → Evaluated) wh
       nudge = rw p refl;
     }
 
-    run-means : Means (run d mark eval u v)
-    run-means = by-run d mark eval Going Means done one u v (λ k. tt) first
+    run-means : Answers (λ e n. Meant (e .ending) (e .at) n) (run d mark eval u v)
+    unfolding run
+    run-means = mapped-answers _ (λ (f : Finished). f .end) (finished d mark eval u v) (by-run d mark eval Going Means done one u v (λ k. tt) first)
 
     module _ (e : End) (n : ℕ) (w : run d mark eval u v ≡ answered e n) where
       pub end-means : Meant (e .ending) (e .at) n

@@ -1,4 +1,4 @@
--- Runs, computed: on the unit square of a plane, on one that is all one point, and on a parabola. They end in each of the five ways.
+-- Runs, computed: on the unit square of a plane, on one that is all one point, and on a parabola. They end in each of the five ways, after as many roots as evaluations.
 use mathlib.Core.Path.{_≡_, refl}
 use mathlib.Core.Bool.{true, false}
 use mathlib.Core.List.{[], _∷_}
@@ -13,7 +13,7 @@ use Rattle.price.specs.Price.{answered}
 use Rattle.domain.specs.declared.Domain.{Domain}
 use Rattle.newton.specs.declared.Iterate.{Iterate}
 use Rattle.newton.specs.declared.Ending.the-variants.{Unchanged, Further, SmallStep, SecondSingular, AllRounds}
-use Rattle.newton.specs.Run.{run, nudges}
+use Rattle.newton.specs.Run.{finish, finished, nudges}
 use Rattle.newton.specs.Visits.{visits}
 use Rattle.newton.specs.Compute.{compute}
 
@@ -36,7 +36,7 @@ dot u v = Found (record { point = at 0· 0·; u = at 0· 0·; v = at 0· 0· })
 ¾· = ½· ⊕ ¼·
 
 -- one step, and then the pair does not change
-steps : run unit (record { x = ¼·; y = ½·; z = ¾· }) square ½· ½· ≡ answered (record { at = record { u = ¼·; v = ½·; distance = ¾· }; ending = Unchanged }) 2
+steps : finished unit (record { x = ¼·; y = ½·; z = ¾· }) square ½· ½· ≡ answered (finish (record { u = ¼·; v = ½·; distance = ¾· }) Unchanged 2) 2
 unfolding compute unit at square ¼· ¾·
 steps = refl
 
@@ -45,7 +45,7 @@ tiny : Float
 tiny = fin false 1 (negsuc 52)
 
 -- one step, of less than 1e-15 of the domain
-lands : run unit (at (½· ⊕ tiny) ½·) square ½· ½· ≡ answered (record { at = record { u = ½· ⊕ tiny; v = ½·; distance = 0· }; ending = SmallStep }) 2
+lands : finished unit (at (½· ⊕ tiny) ½·) square ½· ½· ≡ answered (finish (record { u = ½· ⊕ tiny; v = ½·; distance = 0· }) SmallStep 2) 2
 unfolding compute unit at square tiny
 lands = refl
 
@@ -58,7 +58,7 @@ mark : Vector3
 mark = record { x = fin false 3 (pos 0); y = fin false 1 (pos 2); z = 0· }
 
 -- nudged, and over where it is singular again
-stops : run unit mark dot 0· 0· ≡ answered (record { at = record { u = 1e-6 ⊗ ½·; v = 1e-6 ⊗ ½·; distance = fin false 5 (pos 0) }; ending = SecondSingular }) 2
+stops : finished unit mark dot 0· 0· ≡ answered (finish (record { u = 1e-6 ⊗ ½·; v = 1e-6 ⊗ ½·; distance = fin false 5 (pos 0) }) SecondSingular 2) 2
 unfolding compute unit at dot mark
 stops = refl
 
@@ -73,12 +73,12 @@ parabola u v = Found (record { point = record { x = u; y = v; z = u ⊗ u }; u =
 ⅛· = fin false 1 (negsuc 2)
 
 -- √(4289 / 4096), from the mark (0, 0, -1)
-returns : run valley (record { x = 0·; y = 0·; z = neg 1· }) parabola ⅛· 0· ≡ answered (record { at = record { u = ⅛·; v = 0·; distance = root (fin false 4289 (negsuc 11)) }; ending = Further }) 2
+returns : finished valley (record { x = 0·; y = 0·; z = neg 1· }) parabola ⅛· 0· ≡ answered (finish (record { u = ⅛·; v = 0·; distance = root (fin false 4289 (negsuc 11)) }) Further 2) 2
 unfolding compute at valley parabola ⅛·
 returns = refl
 
 -- over 0 to 1, from (1/2, 0) towards the mark (0, 0, 1/2): no step leads further, and none is small
-goes-on : (p : Iterate) × (run unit (record { x = 0·; y = 0·; z = ½· }) parabola ½· 0· ≡ answered (record { at = p; ending = AllRounds }) 33)
+goes-on : (p : Iterate) × (finished unit (record { x = 0·; y = 0·; z = ½· }) parabola ½· 0· ≡ answered (finish p AllRounds 33) 33)
 unfolding compute unit at parabola
 goes-on = (_, refl)
 

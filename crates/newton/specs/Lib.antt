@@ -5,4 +5,5 @@ pub mod RunLaws
 pub mod VisitLaws
 pub mod EndLaws
 pub mod OutcomeLaws
+pub mod RootLaws
 pub mod Examples

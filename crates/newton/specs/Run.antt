@@ -7,17 +7,19 @@ use Rattle.float64.specs.Operators.{_⊕_, _⊖_, _⊗_, _⊘_, ½·, 1e-6, 1e-
 use Rattle.float64.specs.Functions.{isFinite, abs, max, clamp}
 use Rattle.vector3.specs.declared.Vector3.{Vector3}
 use Rattle.vector3.specs.Vector3.{sub, dot}
-use Rattle.price.specs.Price.{Priced, refused, answered, Paid, spent, paid, spend}
+use Rattle.price.specs.Price.{Priced, refused, answered, mapped, Paid, spent, paid, spend}
 use Rattle.patch.specs.declared.Jet.{Jet}
 use Rattle.patch.specs.declared.Evaluated.{Evaluated}
 use Rattle.patch.specs.declared.Evaluated.the-variants as Eval
 use Rattle.patch.specs.Patch.{fromMark}
 use Rattle.domain.specs.declared.Interval.{Interval}
 use Rattle.domain.specs.declared.Domain.{Domain}
+use Rattle.newton.specs.declared.Measured.{Measured}
 use Rattle.newton.specs.declared.Iterate.{Iterate}
 use Rattle.newton.specs.declared.Ending.{Ending}
 use Rattle.newton.specs.declared.Ending.the-variants as Ending
 use Rattle.newton.specs.declared.End.{End}
+use Rattle.newton.specs.declared.Finished.{Finished}
 use Rattle.newton.specs.declared.Held.{Held}
 use Rattle.newton.specs.declared.Step.{Step}
 use Rattle.newton.specs.declared.Step.the-variants.{Singular, By}
@@ -86,38 +88,50 @@ unfoldable pub judge : Domain → Iterate → Bool → Iterate → Verdict
 judge d from true to = Onward
 judge d from false to = cond (lt (from .distance) (to .distance)) Further (cond (isSmallStep d from to) Last Onward)
 
--- ---- a run: the pair it ends at, with that pair's distance, and how it ended, or refused; and how many evaluations it made
+-- ---- a run: the pair it ends at, with that pair's distance, how it ended, and how many distance roots it took, or refused; and how many evaluations it made
 
 -- what a round comes to: the run is over, or it goes on
 pub data Round : Type 0 where
-  over : Priced End → Round
+  over : Priced Finished → Round
   onto : Held → Round
 
-unfoldable pub follow : (Held → Priced End) → Round → Priced End
+unfoldable pub follow : (Held → Priced Finished) → Round → Priced Finished
 follow rest (over r) = r
 follow rest (onto h) = rest h
 
-abbrev pub endAt : Iterate → Ending → End
-endAt at how = record { at = at; ending = how }
+abbrev pub finish : Iterate → Ending → ℕ → Finished
+finish at how n = record { end = record { at = at; ending = how }; roots = n }
 
--- what a run holds at an evaluated pair
-abbrev pub held : Vector3 → Bool → Float → Float → Jet → Held
-held mark b u v j = record { at = record { u = u; v = v; distance = fromMark mark j }; jet = j; nudged = b }
+-- a root, after n of them
+abbrev pub measured : Vector3 → Jet → ℕ → Measured
+measured mark j n = record { distance = fromMark mark j; roots = suc n }
+
+-- what a run holds at an evaluated pair, with the distance measured there
+abbrev pub held : Measured → Bool → Float → Float → Jet → Held
+held m b u v j = record { at = record { u = u; v = v; distance = m .distance }; jet = j; nudged = b; roots = m .roots }
+
+-- at its start
+abbrev pub begun : Vector3 → Float → Float → Jet → Held
+begun mark u v j = held (measured mark j 0) false u v j
+
+-- at the pair after h
+abbrev pub next : Vector3 → Held → Bool → Float → Float → Jet → Held
+next mark h c u v j = held (measured mark j (h .roots)) (h .nudged || c) u v j
 
 module _ (d : Domain) (mark : Vector3) where
-  -- after n evaluations, the last of them at the next pair
+  -- after n evaluations, the last of them at the pair after h
   unfoldable pub settle : Held → ℕ → Held → Verdict → Round
-  settle h n next Further = over (answered (endAt (h .at) Ending.Further) n)
-  settle h n next Last = over (answered (endAt (next .at) Ending.SmallStep) n)
-  settle h n next Onward = onto next
+  settle h n to Further = over (answered (finish (h .at) Ending.Further (to .roots)) n)
+  settle h n to Last = over (answered (finish (to .at) Ending.SmallStep (to .roots)) n)
+  settle h n to Onward = onto to
 
   unfoldable pub weigh : Held → ℕ → Bool → Float → Float → Evaluated → Round
   weigh h n c u v Eval.Refused = over (refused n)
-  weigh h n c u v (Eval.Found j) = let next = held mark (h .nudged || c) u v j in settle h n next (judge d (h .at) c (next .at))
+  weigh h n c u v (Eval.Found j) = let to = next mark h c u v j in settle h n to (judge d (h .at) c (to .at))
 
   module _ (eval : Float → Float → Evaluated) where
     unfoldable pub pursue : Held → ℕ → Plan → Round
-    pursue h n (Halt how) = over (answered (endAt (h .at) how) n)
+    pursue h n (Halt how) = over (answered (finish (h .at) how (h .roots)) n)
     pursue h n (Probe c u v) = weigh h (suc n) c u v (eval u v)
 
     -- a round after n evaluations
@@ -125,19 +139,23 @@ module _ (d : Domain) (mark : Vector3) where
     round n h = pursue h n (plan d mark h)
 
     -- k rounds more
-    unfoldable pub rounds : ℕ → ℕ → Held → Priced End
-    rounds zero n h = answered (endAt (h .at) Ending.AllRounds) n
+    unfoldable pub rounds : ℕ → ℕ → Held → Priced Finished
+    rounds zero n h = answered (finish (h .at) Ending.AllRounds (h .roots)) n
     rounds (suc k) n h = follow (rounds k (suc n)) (round n h)
 
-    unfoldable pub started : Float → Float → Evaluated → Priced End
+    unfoldable pub started : Float → Float → Evaluated → Priced Finished
     started u v Eval.Refused = refused 1
-    started u v (Eval.Found j) = rounds 32 1 (held mark false u v j)
+    started u v (Eval.Found j) = rounds 32 1 (begun mark u v j)
 
-    unfoldable pub run : Float → Float → Priced End
-    run u v =
+    unfoldable pub finished : Float → Float → Priced Finished
+    finished u v =
         let a = clampInto (d .u) u in
         let b = clampInto (d .v) v in
         started a b (eval a b)
+
+    -- its end alone
+    unfoldable pub run : Float → Float → Priced End
+    run u v = mapped (λ f. f .end) (finished u v)
 
     -- ---- whether a run moves to a pair to which it is nudged
 
@@ -151,7 +169,7 @@ module _ (d : Domain) (mark : Vector3) where
 
     unfoldable pub nudgesFrom : Float → Float → Evaluated → Bool
     nudgesFrom u v Eval.Refused = false
-    nudgesFrom u v (Eval.Found j) = nudgesIn 32 1 (held mark false u v j)
+    nudgesFrom u v (Eval.Found j) = nudgesIn 32 1 (begun mark u v j)
 
     unfoldable pub nudges : Float → Float → Bool
     nudges u v =
@@ -170,10 +188,10 @@ endingNumber Ending.AllRounds = 4
 
 -- ---- what a budget makes of it, as it is answered
 
-unfoldable pub outcomeOf : Paid End → Outcome
+unfoldable pub outcomeOf : Paid Finished → Outcome
 outcomeOf spent = Spent
 outcomeOf (paid (refused n)) = Refused n
-outcomeOf (paid (answered e n)) = Ended e n
+outcomeOf (paid (answered f n)) = Ended f n
 
 -- a round after n evaluations: one that goes on takes a unit
 unfoldable pub turnOf : ℕ → ℕ → Round → Turn

@@ -9,7 +9,7 @@ use Rattle.float64.specs.Functions.{clamp}
 use Rattle.float64.specs.Order.{le-refl, le-trans, le-not-lt, le→number}
 use Rattle.vector3.specs.declared.Vector3.{Vector3}
 use Rattle.price.specs.Price.{Priced, refused, answered, price}
-use Rattle.price.specs.PriceLaws.{Between, Answers, answers-map}
+use Rattle.price.specs.PriceLaws.{Between, Answers, answers-map, mapped-price, mapped-answers}
 use Rattle.patch.specs.declared.Jet.{Jet}
 use Rattle.patch.specs.declared.Evaluated.{Evaluated}
 use Rattle.patch.specs.declared.Evaluated.the-variants as Eval
@@ -20,6 +20,7 @@ use Rattle.newton.specs.declared.Iterate.{Iterate}
 use Rattle.newton.specs.declared.Ending.{Ending}
 use Rattle.newton.specs.declared.Ending.the-variants.{Unchanged, Further, SmallStep, SecondSingular, AllRounds}
 use Rattle.newton.specs.declared.End.{End}
+use Rattle.newton.specs.declared.Finished.{Finished}
 use Rattle.newton.specs.declared.Held.{Held}
 use Rattle.newton.specs.declared.Step.{Step}
 use Rattle.newton.specs.declared.Step.the-variants.{Singular, By}
@@ -27,11 +28,15 @@ use Rattle.newton.specs.declared.Plan.{Plan}
 use Rattle.newton.specs.declared.Plan.the-variants.{Halt, Probe}
 use Rattle.newton.specs.declared.Verdict.{Verdict}
 use Rattle.newton.specs.declared.Verdict.the-variants as Verdict
-use Rattle.newton.specs.Run.{stepOf, clampInto, inward, isSmallStep, nudged, moved, planBy, plan, judge, Round, over, onto, follow, endAt, held, settle, weigh, pursue, round, rounds, started, run, nudgesOn, nudgesIn, nudgesFrom, nudges}
+use Rattle.newton.specs.Run.{stepOf, clampInto, inward, isSmallStep, nudged, moved, planBy, plan, judge, Round, over, onto, follow, finish, begun, next, settle, weigh, pursue, round, rounds, started, finished, run, nudgesOn, nudgesIn, nudgesFrom, nudges}
 
 -- what holds of a run's end, where it has one
 abbrev pub Ends : (End → Type 0) → Priced End → Type 0
 Ends P r = Answers (λ e n. P e) r
+
+-- the same with its roots beside it
+abbrev Finishes : (End → Type 0) → Priced Finished → Type 0
+Finishes P r = Answers (λ f n. P (f .end)) r
 
 -- on an axis without the flag, in the knot domain
 abbrev pub Inside : Interval → Float → Type 0
@@ -126,27 +131,23 @@ module _ (d : Domain) (mark : Vector3) (eval : Float → Float → Evaluated) wh
 
   -- ---- what a round can come to
 
-  -- what a run that holds h would hold next, at (a, b)
-  abbrev pub next : Held → Bool → Float → Float → Jet → Held
-  next h c a b j = held mark (h .nudged || c) a b j
-
   abbrev pub judged : Held → Bool → Float → Float → Jet → Verdict
-  judged h c a b j = judge d (h .at) c (next h c a b j .at)
+  judged h c a b j = judge d (h .at) c (next mark h c a b j .at)
 
   -- after n evaluations
   pub data Rounded (n : ℕ) (h : Held) : Plan → Round → Type 0 where
-    halts : (how : Ending) → Rounded n h (Halt how) (over (answered (endAt (h .at) how) n))
+    halts : (how : Ending) → Rounded n h (Halt how) (over (answered (finish (h .at) how (h .roots)) n))
     refuses : (c : Bool) (a b : Float) → Rounded n h (Probe c a b) (over (refused (suc n)))
     returns : (c : Bool) (a b : Float) (j : Jet) → eval a b ≡ Eval.Found j → judged h c a b j ≡ Verdict.Further
-        → Rounded n h (Probe c a b) (over (answered (endAt (h .at) Further) (suc n)))
+        → Rounded n h (Probe c a b) (over (answered (finish (h .at) Further (suc (h .roots))) (suc n)))
     lands : (c : Bool) (a b : Float) (j : Jet) → eval a b ≡ Eval.Found j → judged h c a b j ≡ Verdict.Last
-        → Rounded n h (Probe c a b) (over (answered (endAt (next h c a b j .at) SmallStep) (suc n)))
+        → Rounded n h (Probe c a b) (over (answered (finish (next mark h c a b j .at) SmallStep (suc (h .roots))) (suc n)))
     goes : (c : Bool) (a b : Float) (j : Jet) → eval a b ≡ Eval.Found j → judged h c a b j ≡ Verdict.Onward
-        → Rounded n h (Probe c a b) (onto (next h c a b j))
+        → Rounded n h (Probe c a b) (onto (next mark h c a b j))
 
   module _ (n : ℕ) (h : Held) where
     found-rounded : (c : Bool) (a b : Float) (j : Jet) → eval a b ≡ Eval.Found j → (w : Verdict) → judged h c a b j ≡ w
-        → Rounded n h (Probe c a b) (settle d mark h (suc n) (next h c a b j) w)
+        → Rounded n h (Probe c a b) (settle d mark h (suc n) (next mark h c a b j) w)
     unfolding settle
     found-rounded c a b j p Verdict.Further q = returns c a b j p q
     found-rounded c a b j p Verdict.Last q = lands c a b j p q
@@ -166,8 +167,8 @@ module _ (d : Domain) (mark : Vector3) (eval : Float → Float → Evaluated) wh
         by (Probe c a b) = weigh-rounded c a b (eval a b) refl
 
   -- Induction over the rounds: S is to hold of what a run holds with k rounds to go after n evaluations, and Q of a run that is over.
-  module _ (S : ℕ → ℕ → Held → Type 0) (Q : Priced End → Type 0) where
-    abbrev Next : ℕ → ℕ → Round → Type 0
+  module _ (S : ℕ → ℕ → Held → Type 0) (Q : Priced Finished → Type 0) where
+    abbrev pub Next : ℕ → ℕ → Round → Type 0
     Next k n (over r) = Q r
     Next k n (onto h) = S k (suc n) h
 
@@ -175,20 +176,23 @@ module _ (d : Domain) (mark : Vector3) (eval : Float → Float → Evaluated) wh
     abbrev pub Carries : Type 0
     Carries = (k n : ℕ) (h : Held) → S (suc k) n h → (p : Plan) → plan d mark h ≡ p → Planned h p → (r : Round) → round d mark eval n h ≡ r → Rounded n h p r → Next k n r
 
-    follow-next : (rest : Held → Priced End) (k n : ℕ) → ((h : Held) → S k (suc n) h → Q (rest h)) → (r : Round) → Next k n r → Q (follow rest r)
+    pub by-round : Carries → (k n : ℕ) (h : Held) → S (suc k) n h → Next k n (round d mark eval n h)
+    by-round one k n h s = one k n h s _ refl (plan-planned h) _ refl (round-rounded n h)
+
+    follow-next : (rest : Held → Priced Finished) (k n : ℕ) → ((h : Held) → S k (suc n) h → Q (rest h)) → (r : Round) → Next k n r → Q (follow rest r)
     unfolding follow
     follow-next rest k n f (over r) s = s
     follow-next rest k n f (onto h) s = f h s
 
-    module _ (done : (n : ℕ) (h : Held) → S 0 n h → Q (answered (endAt (h .at) AllRounds) n)) (one : Carries) where
+    module _ (done : (n : ℕ) (h : Held) → S 0 n h → Q (answered (finish (h .at) AllRounds (h .roots)) n)) (one : Carries) where
       pub by-rounds : (k n : ℕ) (h : Held) → S k n h → Q (rounds d mark eval k n h)
       unfolding rounds
       by-rounds zero n h s = done n h s
-      by-rounds (suc k) n h s = follow-next (rounds d mark eval k (suc n)) k n (by-rounds k (suc n)) _ (one k n h s _ refl (plan-planned h) _ refl (round-rounded n h))
+      by-rounds (suc k) n h s = follow-next (rounds d mark eval k (suc n)) k n (by-rounds k (suc n)) _ (by-round one k n h s)
 
       -- from what a run holds at its clamped start
-      pub by-run : (u v : Float) → ((k : ℕ) → Q (refused k)) → ((j : Jet) → eval (clampInto (d .u) u) (clampInto (d .v) v) ≡ Eval.Found j → S 32 1 (held mark false (clampInto (d .u) u) (clampInto (d .v) v) j)) → Q (run d mark eval u v)
-      unfolding run started
+      pub by-run : (u v : Float) → ((k : ℕ) → Q (refused k)) → ((j : Jet) → eval (clampInto (d .u) u) (clampInto (d .v) v) ≡ Eval.Found j → S 32 1 (begun mark (clampInto (d .u) u) (clampInto (d .v) v) j)) → Q (finished d mark eval u v)
+      unfolding finished started
       by-run u v none first = by (eval (clampInto (d .u) u) (clampInto (d .v) v)) refl
         where
           by : (r : Evaluated) → eval (clampInto (d .u) u) (clampInto (d .v) v) ≡ r → Q (started d mark eval (clampInto (d .u) u) (clampInto (d .v) v) r)
@@ -201,7 +205,7 @@ module _ (d : Domain) (mark : Vector3) (eval : Float → Float → Evaluated) wh
     abbrev Counting : ℕ → ℕ → Held → Type 0
     Counting k n h = (low ≤ n) × (n + k ≤ high)
 
-    abbrev Counted : Priced End → Type 0
+    abbrev Counted : Priced Finished → Type 0
     Counted r = Between low (price r) high
 
     round-count : Carries Counting Counted
@@ -215,38 +219,40 @@ module _ (d : Domain) (mark : Vector3) (eval : Float → Float → Evaluated) wh
   rounds-count k n h =
       by-rounds (Counting n (n + k)) (Counted n (n + k)) (λ m h s. record { above = omega arith; under = omega arith }) (round-count n (n + k)) k n h (omega arith, omega arith)
 
-  pub run-count : (u v : Float) → Between 1 (price (run d mark eval u v)) 33
-  unfolding run started
-  run-count u v = by (eval (clampInto (d .u) u) (clampInto (d .v) v))
+  pub finished-count : (u v : Float) → Between 1 (price (finished d mark eval u v)) 33
+  unfolding finished started
+  finished-count u v = by (eval (clampInto (d .u) u) (clampInto (d .v) v))
     where
       by : (r : Evaluated) → Between 1 (price (started d mark eval (clampInto (d .u) u) (clampInto (d .v) v) r)) 33
       by Eval.Refused = record { above = omega arith; under = omega arith }
       by (Eval.Found j) = rounds-count 32 1 _
 
+  pub run-count : (u v : Float) → Between 1 (price (run d mark eval u v)) 33
+  unfolding run
+  run-count u v = rw (mapped-price (λ (f : Finished). f .end) (finished d mark eval u v)) (finished-count u v)
+
   -- ---- where a run ends
 
-  reached : (c : Bool) (a b : Float) → Clamped (Probe c a b) → (j : Jet) → eval a b ≡ Eval.Found j → (f : Bool) → Reached (held mark f a b j .at)
-  reached c a b l j p f = record { jet = j; found = p; distance = refl; fromU = l .0; fromV = l .1; clampedU = l .2; clampedV = l .3 }
+  reached : (c : Bool) (a b : Float) → Clamped (Probe c a b) → (j : Jet) → eval a b ≡ Eval.Found j → Reached (begun mark a b j .at)
+  reached c a b l j p = record { jet = j; found = p; distance = refl; fromU = l .0; fromV = l .1; clampedU = l .2; clampedV = l .3 }
 
-  start-reached : (u v : Float) (j : Jet) → eval (clampInto (d .u) u) (clampInto (d .v) v) ≡ Eval.Found j → Reached (held mark false (clampInto (d .u) u) (clampInto (d .v) v) j .at)
-  start-reached u v j p = reached false _ _ (u, v, refl, refl) j p false
+  start-reached : (u v : Float) (j : Jet) → eval (clampInto (d .u) u) (clampInto (d .v) v) ≡ Eval.Found j → Reached (begun mark (clampInto (d .u) u) (clampInto (d .v) v) j .at)
+  start-reached u v j p = reached false _ _ (u, v, refl, refl) j p
 
   abbrev Holding : ℕ → ℕ → Held → Type 0
   Holding k n h = Reached (h .at)
 
-  abbrev EndsReached : Priced End → Type 0
-  EndsReached = Ends (λ e. Reached (e .at))
-
-  round-held : Carries Holding EndsReached
+  round-held : Carries Holding (Finishes (λ e. Reached (e .at)))
   round-held k n h s p f l r e (halts how) = s
   round-held k n h s p f l r e (refuses c a b) = tt
   round-held k n h s p f l r e (returns c a b j g q) = s
-  round-held k n h s p f l r e (lands c a b j g q) = reached c a b (planned-clamped l) j g (h .nudged || c)
-  round-held k n h s p f l r e (goes c a b j g q) = reached c a b (planned-clamped l) j g (h .nudged || c)
+  round-held k n h s p f l r e (lands c a b j g q) = reached c a b (planned-clamped l) j g
+  round-held k n h s p f l r e (goes c a b j g q) = reached c a b (planned-clamped l) j g
 
   -- a run's end is a pair that was evaluated, with that pair's distance
-  pub run-held : (u v : Float) → EndsReached (run d mark eval u v)
-  run-held u v = by-run Holding EndsReached (λ n h s. s) round-held u v (λ k. tt) (start-reached u v)
+  pub run-held : (u v : Float) → Ends (λ e. Reached (e .at)) (run d mark eval u v)
+  unfolding run
+  run-held u v = mapped-answers _ (λ (f : Finished). f .end) (finished d mark eval u v) (by-run Holding (Finishes (λ e. Reached (e .at))) (λ n h s. s) round-held u v (λ k. tt) (start-reached u v))
 
   -- the evaluation refuses a pair with a NaN in it
   module _ (number : (u v : Float) (j : Jet) → eval u v ≡ Eval.Found j → (isNan u ≡ false) × (isNan v ≡ false)) where
@@ -270,8 +276,8 @@ module _ (d : Domain) (mark : Vector3) (eval : Float → Float → Evaluated) wh
       abbrev Descending : ℕ → ℕ → Held → Type 0
       Descending k n h = Reached (h .at) × (le (h .at .distance) e₀ ≡ true) × (nudgesIn d mark eval k n h ≡ false)
 
-      abbrev Lower : Priced End → Type 0
-      Lower = Ends (λ e. le (e .at .distance) e₀ ≡ true)
+      abbrev Lower : Priced Finished → Type 0
+      Lower = Finishes (λ e. le (e .at .distance) e₀ ≡ true)
 
       nearer : {a b : Iterate} → Reached a → le (a .distance) e₀ ≡ true → Reached b → lt (a .distance) (b .distance) ≡ false → le (b .distance) e₀ ≡ true
       nearer {a} {b} r h r' q = le-trans (b .distance) (a .distance) e₀ (simp (le-not-lt (b .distance) (a .distance) (reached-number r') (reached-number r), q)) h
@@ -289,18 +295,19 @@ module _ (d : Domain) (mark : Vector3) (eval : Float → Float → Evaluated) wh
       round-descends k n h s p f l r e (halts how) = s .1
       round-descends k n h s p f l r e (refuses c a b) = tt
       round-descends k n h s p f l r e (returns c a b j g q) = s .1
-      round-descends k n h s p f l r e (lands c a b j g q) = nearer (s .0) (s .1) (reached c a b (planned-clamped l) j g (h .nudged || c)) ((rw q at (judge-told d (h .at) c (next h c a b j .at))) .1)
+      round-descends k n h s p f l r e (lands c a b j g q) = nearer (s .0) (s .1) (reached c a b (planned-clamped l) j g) ((rw q at (judge-told d (h .at) c (next mark h c a b j .at))) .1)
       round-descends k n h s p f l r e (goes c a b j g q) =
-          let to = reached c a b (planned-clamped l) j g (h .nudged || c) in
+          let to = reached c a b (planned-clamped l) j g in
           let still = unflagged (h .nudged || c) _ (rw e at s .2) in
-          (to, nearer (s .0) (s .1) to ((rw q at (judge-told d (h .at) c (next h c a b j .at))) (flagged (h .nudged) c (still .0)) .0), still .1)
+          (to, nearer (s .0) (s .1) to ((rw q at (judge-told d (h .at) c (next mark h c a b j .at))) (flagged (h .nudged) c (still .0)) .0), still .1)
 
     -- unless it is nudged, a run's end is no further than its start
     pub run-descends : (u v : Float) (j : Jet) → eval (clampInto (d .u) u) (clampInto (d .v) v) ≡ Eval.Found j → nudges d mark eval u v ≡ false
         → Ends (λ e. le (e .at .distance) (fromMark mark j) ≡ true) (run d mark eval u v)
-    unfolding run started nudges nudgesFrom
+    unfolding run finished started nudges nudgesFrom
     run-descends u v j p h =
         let e₀ = fromMark mark j in
         rw p
+        (mapped-answers _ (λ (f : Finished). f .end) _
         (by-rounds (Descending e₀) (Lower e₀) (λ n h s. s .1) (round-descends e₀) 32 1 _
-        (start-reached u v j p, le-refl e₀ (number (clampInto (d .u) u) (clampInto (d .v) v) j p), rw p at h))
+        (start-reached u v j p, le-refl e₀ (number (clampInto (d .u) u) (clampInto (d .v) v) j p), rw p at h)))

@@ -1,6 +1,6 @@
 -- The pairs that a run evaluates, in order, with no word of a count. Definitions only.
 use Prim.Native.Nat.{ℕ, zero, suc}
-use mathlib.Core.Bool.{Bool, false, _||_}
+use mathlib.Core.Bool.{Bool}
 use mathlib.Core.List.{List, [], _∷_}
 use lib.Ieee.{Float}
 use Rattle.vector3.specs.declared.Vector3.{Vector3}
@@ -13,7 +13,7 @@ use Rattle.newton.specs.declared.Plan.{Plan}
 use Rattle.newton.specs.declared.Plan.the-variants.{Halt, Probe}
 use Rattle.newton.specs.declared.Verdict.{Verdict}
 use Rattle.newton.specs.declared.Verdict.the-variants.{Further, Last, Onward}
-use Rattle.newton.specs.Run.{clampInto, plan, judge, held}
+use Rattle.newton.specs.Run.{clampInto, plan, judge, begun, next}
 
 -- the rest of a run, unless its last evaluation ends it
 unfoldable pub ifOnward : Verdict → List Pair → List Pair
@@ -25,7 +25,7 @@ module _ (d : Domain) (mark : Vector3) where
   -- after the evaluation of (u, v)
   unfoldable pub visitsPast : (Held → List Pair) → Held → Bool → Float → Float → Evaluated → List Pair
   visitsPast rest h c u v Refused = []
-  visitsPast rest h c u v (Found j) = let next = held mark (h .nudged || c) u v j in ifOnward (judge d (h .at) c (next .at)) (rest next)
+  visitsPast rest h c u v (Found j) = let to = next mark h c u v j in ifOnward (judge d (h .at) c (to .at)) (rest to)
 
   module _ (eval : Float → Float → Evaluated) where
     unfoldable pub visitsOn : (Held → List Pair) → Held → Plan → List Pair
@@ -39,7 +39,7 @@ module _ (d : Domain) (mark : Vector3) where
 
     unfoldable pub visitsFrom : Float → Float → Evaluated → List Pair
     visitsFrom u v Refused = []
-    visitsFrom u v (Found j) = visitsIn 32 (held mark false u v j)
+    visitsFrom u v (Found j) = visitsIn 32 (begun mark u v j)
 
     -- "A run clamps its start, evaluates, then does at most 32 rounds"
     unfoldable pub visits : Float → Float → List Pair

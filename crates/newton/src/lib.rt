@@ -1,12 +1,14 @@
 // One run of Gauss-Newton: from a start towards the surface point nearest to a mark.
+mod measure;
 mod number;
 mod round;
 
+use measure::measure;
 pub use number::ending_number;
 use patch::Evaluated;
 use patch::Jet;
 use round::clamp_into;
-use round::hold;
+use round::ended;
 use round::round;
 use scaled::Accepted;
 use scaled::scaled_jet;
@@ -18,6 +20,12 @@ ghost use Rattle.surface.specs.Surface.{evaluateBy};
 ghost use Rattle.surface.specs.Lent.{surfaceOf, atEntry};
 ghost use Rattle.scaled.specs.Accepted.{Accepts};
 ghost use Rattle.newton.specs.Run as Run;
+
+// A point's distance from the mark, and the roots that were taken up to it, its own included.
+pub struct Measured {
+    pub distance: f64,
+    pub roots: u64,
+}
 
 // A pair that a run evaluated, with its distance from the mark.
 pub struct Iterate {
@@ -41,11 +49,18 @@ pub struct End {
     pub ending: Ending,
 }
 
-// What a run holds from round to round: the pair, the jet there, and whether it was nudged.
+// A run that came to an end, and the distance roots that it took.
+pub struct Finished {
+    pub end: End,
+    pub roots: u64,
+}
+
+// What a run holds from round to round: the pair, the jet there, whether it was nudged, and the distance roots that it took.
 pub struct Held {
     pub at: Iterate,
     pub jet: Jet,
     pub nudged: bool,
+    pub roots: u64,
 }
 
 // The step from a pair, where the determinant is not too small.
@@ -67,9 +82,9 @@ pub enum Verdict {
     Onward,
 }
 
-// By what a budget makes of it: the end and the units taken; refused after so many; or no unit was left.
+// By what a budget makes of it: the end with its roots, and the units taken; refused after so many; or no unit was left.
 pub enum Outcome {
-    Ended(End, u64),
+    Ended(Finished, u64),
     Refused(u64),
     Spent,
 }
@@ -91,16 +106,14 @@ fn rounds(
     start: Held,
     budget: u64,
 ) -> Outcome
-    requires { ⌜ Accepts (surfaceOf (accepted .shape) ku kv controls weights) accepted × (1 ≤ budget) ⌝ }
+    requires { ⌜ Accepts (surfaceOf (accepted .shape) ku kv controls weights) accepted × (1 ≤ budget) × (start .roots ≡ 1) ⌝ }
     ensures { λ r. ⌜ r ≡ Run.outcomeOf (spend budget (Run.rounds (accepted .domain) mark (evaluateBy (atEntry (accepted .shape) ku kv controls weights) (accepted .largest)) 32 1 start)) ⌝ }
 {
     let mut held = start;
     let mut taken: u64 = 1;
     loop {
         if taken == 33 {
-            let at = held.at;
-            let ending = Ending::AllRounds;
-            break Outcome::Ended(End { at, ending }, taken);
+            break ended(held.at, Ending::AllRounds, held.roots, taken);
         }
         match round(
             accepted,
@@ -133,7 +146,7 @@ pub fn run(
     budget: u64,
 ) -> Outcome
     requires { ⌜ Accepts (surfaceOf (accepted .shape) ku kv controls weights) accepted ⌝ }
-    ensures { λ r. ⌜ r ≡ Run.outcomeOf (spend budget (Run.run (accepted .domain) mark (evaluateBy (atEntry (accepted .shape) ku kv controls weights) (accepted .largest)) u v)) ⌝ }
+    ensures { λ r. ⌜ r ≡ Run.outcomeOf (spend budget (Run.finished (accepted .domain) mark (evaluateBy (atEntry (accepted .shape) ku kv controls weights) (accepted .largest)) u v)) ⌝ }
 {
     if budget == 0 {
         return Outcome::Spent;
@@ -144,6 +157,17 @@ pub fn run(
     let Evaluated::Found(jet) = scaled_jet(accepted, ku, kv, controls, weights, u, v) else {
         return Outcome::Refused(1);
     };
-    let start = hold(mark, false, u, v, jet);
+    let measured = measure(mark, jet, 0);
+    let at = Iterate {
+        u,
+        v,
+        distance: measured.distance,
+    };
+    let start = Held {
+        at,
+        jet,
+        nudged: false,
+        roots: measured.roots,
+    };
     rounds(accepted, ku, kv, controls, weights, mark, start, budget)
 }

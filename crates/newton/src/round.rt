@@ -1,6 +1,7 @@
 // One round: where to evaluate next, and what came of it.
 use crate::End;
 use crate::Ending;
+use crate::Finished;
 use crate::Held;
 use crate::Iterate;
 use crate::Outcome;
@@ -8,6 +9,7 @@ use crate::Plan;
 use crate::Step;
 use crate::Turn;
 use crate::Verdict;
+use crate::measure::measure;
 use domain::Domain;
 use domain::Interval;
 use float64::abs;
@@ -19,7 +21,6 @@ use patch::Jet;
 use scaled::Accepted;
 use scaled::scaled_jet;
 use vector3::Vector3;
-use vector3::distance;
 use vector3::dot;
 use vector3::sub;
 ghost use mathlib.Core.Path.{_≡_};
@@ -28,19 +29,7 @@ ghost use Rattle.surface.specs.Surface.{evaluateBy};
 ghost use Rattle.surface.specs.Lent.{surfaceOf, atEntry};
 ghost use Rattle.scaled.specs.Accepted.{Accepts};
 ghost use Rattle.newton.specs.declared.Outcome.the-variants.{Ended};
-ghost use Rattle.newton.specs.declared.Turn.the-variants.{Over};
 ghost use Rattle.newton.specs.Run as Run;
-
-pub(crate) fn hold(mark: Vector3, nudged: bool, u: f64, v: f64, jet: Jet) -> Held
-    ensures { λ r. ⌜ r ≡ Run.held mark nudged u v jet ⌝ }
-{
-    let at = Iterate {
-        u,
-        v,
-        distance: distance(jet.point, mark),
-    };
-    Held { at, jet, nudged }
-}
 
 // The negation comes before the division.
 fn solve(a: f64, b: f64, c: f64, g0: f64, g1: f64) -> Step
@@ -141,11 +130,12 @@ fn judge(d: Domain, from: Iterate, nudge: bool, to: Iterate) -> Verdict
     Verdict::Onward
 }
 
-// The run is over, after so many evaluations.
-fn over(at: Iterate, ending: Ending, taken: u64) -> Turn
-    ensures { λ r. ⌜ r ≡ Over (Ended (Run.endAt at ending) taken) ⌝ }
+// The run is over, after so many roots and evaluations.
+pub(crate) fn ended(at: Iterate, ending: Ending, roots: u64, taken: u64) -> Outcome
+    ensures { λ r. ⌜ r ≡ Ended (Run.finish at ending roots) taken ⌝ }
 {
-    Turn::Over(Outcome::Ended(End { at, ending }, taken))
+    let end = End { at, ending };
+    Outcome::Ended(Finished { end, roots }, taken)
 }
 
 // Takes a unit where it evaluates, before it does.
@@ -160,13 +150,13 @@ pub(crate) fn round(
     taken: u64,
     budget: u64,
 ) -> Turn
-    requires { ⌜ Accepts (surfaceOf (accepted .shape) ku kv controls weights) accepted × (taken ≤ budget) ⌝ }
+    requires { ⌜ Accepts (surfaceOf (accepted .shape) ku kv controls weights) accepted × (taken ≤ budget) × (held .roots ≤ 32) ⌝ }
     ensures { λ r. ⌜ r ≡ Run.turnOf budget taken (Run.round (accepted .domain) mark (evaluateBy (atEntry (accepted .shape) ku kv controls weights) (accepted .largest)) taken held) ⌝ }
 {
     let domain = accepted.domain;
     let here = held.at;
     match plan_from(domain, mark, held) {
-        Plan::Halt(ending) => over(here, ending, taken),
+        Plan::Halt(ending) => Turn::Over(ended(here, ending, held.roots, taken)),
         Plan::Probe(nudge, u, v) => {
             if taken == budget {
                 return Turn::Over(Outcome::Spent);
@@ -175,12 +165,21 @@ pub(crate) fn round(
             let Evaluated::Found(jet) = scaled_jet(accepted, ku, kv, controls, weights, u, v) else {
                 return Turn::Over(Outcome::Refused(units));
             };
-            let next = hold(mark, held.nudged | nudge, u, v, jet);
-            let there = next.at;
+            let measured = measure(mark, jet, held.roots);
+            let there = Iterate {
+                u,
+                v,
+                distance: measured.distance,
+            };
             match judge(domain, here, nudge, there) {
-                Verdict::Further => over(here, Ending::Further, units),
-                Verdict::Last => over(there, Ending::SmallStep, units),
-                Verdict::Onward => Turn::Onto(next),
+                Verdict::Further => Turn::Over(ended(here, Ending::Further, measured.roots, units)),
+                Verdict::Last => Turn::Over(ended(there, Ending::SmallStep, measured.roots, units)),
+                Verdict::Onward => Turn::Onto(Held {
+                    at: there,
+                    jet,
+                    nudged: held.nudged | nudge,
+                    roots: measured.roots,
+                }),
             }
         }
     }

@@ -20,12 +20,12 @@ abbrev μ-loop : tie.MeasureT-loop
 loop-holds : tie.Need-loop-holds Inv-loop μ-loop
 loop-holds c =
     let from = c .before .before .before .before in
-    (omega arith, from .pre .1, refl)
+    (omega arith, from .pre .1, from .pre .2, refl)
 
 round-requires : tie.Need-round-requires Inv-loop μ-loop
 round-requires c κs =
     let at = c .before in
-    (at .before .before .before .before .before .pre .0, at .loop .inv .1)
+    (at .before .before .before .before .before .pre .0, at .loop .inv .1, omega (arith, at .loop .inv .0, at .loop .inv .2, c .if1 .left))
 
 loop-again : tie.Need-loop-again Inv-loop μ-loop
 loop-again c =
@@ -36,7 +36,7 @@ loop-again c =
 returns : tie.Need-returns Inv-loop μ-loop
 returns c =
     let at = c .before .before in
-    full _ _ _ _ _ (at .loop .held) _ (at .loop .inv) (omega (arith, c .before .if1 .taken))
+    full _ _ _ _ _ (at .loop .held) _ (at .loop .inv) (omega (arith, c .before .if1 .taken)) (c .ended .ensures)
 
 returns-2 : tie.Need-returns-2 Inv-loop μ-loop
 returns-2 c =
@@ -51,6 +51,7 @@ rounds-spec =
     Inv-loop
     μ-loop
     loop-holds
+    (λ c κs. search needs)
     round-requires
     (λ c. search needs)
     (λ c. search needs)

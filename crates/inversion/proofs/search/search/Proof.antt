@@ -33,8 +33,8 @@ returns c =
     let at = to .before .before in
     search-spent _ _ _ (at .before .loop .inv .1) (at .loop-test .taken) (to .run .ensures) (c .enum-told .given .1)
 
-add-t27 : tie.Need-add-t27 Inv-loop μ-loop
-add-t27 c =
+add-t28 : tie.Need-add-t28 Inv-loop μ-loop
+add-t28 c =
     let to = c .before .before .before in
     let at = to .before .before in
     let from = at .before .before .before .before .before .before .before in
@@ -48,22 +48,22 @@ returns-2 c =
 
 cast-origin : tie.Need-cast-origin Inv-loop μ-loop
 cast-origin c =
-    let at = c .before .before .before .before .before in
+    let at = c .before .before .before .before .before .before in
     let from = at .before .before .before .before .before .before .before in
     record { fits = omega (arith, from .pre .1, at .loop-test .taken) }
 
 add-taken : tie.Need-add-taken Inv-loop μ-loop
 add-taken c =
-    let to = c .before .before .before .before in
+    let to = c .before .before .before .before .before in
     let at = to .before .before in
     let from = at .before .before .before .before .before .before .before in
-    record { fits = omega (arith, from .fits, end-fits _ _ _ (at .before .loop .inv .1) (at .loop-test .taken) (to .run .ensures) _ _ (c .before .before .end .given .1)) }
+    record { fits = omega (arith, from .fits, end-fits _ _ _ (at .before .loop .inv .1) (at .loop-test .taken) (to .run .ensures) _ _ (c .before .before .before .finished .given .1)) }
 
 loop-again : tie.Need-loop-again Inv-loop μ-loop
 loop-again c =
-    let to = c .before .before .before .before in
+    let to = c .before .before .before .before .before in
     let at = to .before .before in
-    (omega arith, search-goes _ _ _ (at .before .loop .inv .1) (at .loop-test .taken) (to .run .ensures) _ _ (c .before .before .end .given .1) (c .keep .ensures))
+    (omega arith, search-goes _ _ _ (at .before .loop .inv .1) (at .loop-test .taken) (to .run .ensures) _ _ (c .before .before .before .finished .given .1) (c .keep .ensures))
 
 conclude-requires : tie.Need-conclude-requires Inv-loop μ-loop
 conclude-requires c κs = c .before .loop .inv .1 .within
@@ -87,7 +87,7 @@ search-spec =
     (λ c. search needs)
     returns
     (λ c. search needs)
-    add-t27
+    add-t28
     returns-2
     (λ c. search needs)
     (λ c. search needs)

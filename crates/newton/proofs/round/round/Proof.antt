@@ -1,5 +1,4 @@
 -- Each way out of a round is a case of its definition.
-use mathlib.Core.Path.{_∙_}
 use borrow.Author.Needs.{needs}
 use Rattle.newton.proofs.RoundSteps.{halted, unpaid, unfound, further, last, onward}
 use Rattle.newton.proofs.round.round.Statement.{statement}
@@ -14,8 +13,8 @@ planned c = c .before .before
 abbrev probed : tie.After-scaled-jet → tie.After-nudge
 probed c = c .before .before .before
 
-abbrev found : tie.After-judge → tie.After-jet
-found c = c .before .before .before .before .before
+abbrev measured : tie.After-judge → tie.After-jet
+measured c = c .before .before .before
 
 returns : tie.Need-returns
 returns c =
@@ -30,38 +29,41 @@ returns-2 c =
     let to = planned at in
     unfound _ _ _ _ (start to .args .held) _ (start to .pre .1) (to .plan-from .ensures) _ _ _ (at .nudge .given .1) (jet .before .if1 .left) (jet .scaled-jet .ensures) (c .enum-told .given .1)
 
+measure-requires : tie.Need-measure-requires
+measure-requires c κs = start (planned (probed (c .before .before .before))) .pre .2
+
 returns-3 : tie.Need-returns-3
 returns-3 c =
     let is = c .before .before in
     let to = is .before .before in
-    c .over .ensures ∙ halted _ _ _ _ (start to .args .held) _ (start to .pre .1) (to .plan-from .ensures) _ (is .ending .given .1)
+    halted _ _ _ _ (start to .args .held) _ (start to .pre .1) (to .plan-from .ensures) _ (is .ending .given .1) (c .ended .ensures)
 
 returns-4 : tie.Need-returns-4
 returns-4 c =
     let by = c .before .before .before in
-    let is = found by in
+    let is = measured by in
     let jet = is .before .before in
     let at = probed jet in
     let to = planned at in
-    c .over2 .ensures ∙ further _ _ _ _ (start to .args .held) _ (start to .pre .1) (to .plan-from .ensures) _ _ _ (at .nudge .given .1) (jet .before .if1 .left) (jet .scaled-jet .ensures) _ (is .jet .given .1) (by .before .before .hold .result) (by .before .before .hold .ensures) (by .judge .ensures) (c .before .enum-told2 .given .1)
+    further _ _ _ _ (start to .args .held) _ (start to .pre .1) (to .plan-from .ensures) _ _ _ (at .nudge .given .1) (jet .before .if1 .left) (jet .scaled-jet .ensures) _ (is .jet .given .1) _ (by .before .measure .ensures) (by .judge .ensures) (c .before .enum-told2 .given .1) (c .ended2 .ensures)
 
 returns-5 : tie.Need-returns-5
 returns-5 c =
     let by = c .before .before .before in
-    let is = found by in
+    let is = measured by in
     let jet = is .before .before in
     let at = probed jet in
     let to = planned at in
-    c .over3 .ensures ∙ last _ _ _ _ (start to .args .held) _ (start to .pre .1) (to .plan-from .ensures) _ _ _ (at .nudge .given .1) (jet .before .if1 .left) (jet .scaled-jet .ensures) _ (is .jet .given .1) (by .before .before .hold .result) (by .before .before .hold .ensures) (by .judge .ensures) (c .before .enum-told3 .given .1)
+    last _ _ _ _ (start to .args .held) _ (start to .pre .1) (to .plan-from .ensures) _ _ _ (at .nudge .given .1) (jet .before .if1 .left) (jet .scaled-jet .ensures) _ (is .jet .given .1) _ (by .before .measure .ensures) (by .judge .ensures) (c .before .enum-told3 .given .1) (c .ended3 .ensures)
 
 returns-6 : tie.Need-returns-6
 returns-6 c =
-    let by = c .before .before in
-    let is = found by in
+    let by = c .before .before .before in
+    let is = measured by in
     let jet = is .before .before in
     let at = probed jet in
     let to = planned at in
-    onward _ _ _ _ (start to .args .held) _ (start to .pre .1) (to .plan-from .ensures) _ _ _ (at .nudge .given .1) (jet .before .if1 .left) (jet .scaled-jet .ensures) _ (is .jet .given .1) (by .before .before .hold .result) (by .before .before .hold .ensures) (by .judge .ensures) (c .enum-told4 .given .1)
+    onward _ _ _ _ (start to .args .held) _ (start to .pre .1) (to .plan-from .ensures) _ _ _ (at .nudge .given .1) (jet .before .if1 .left) (jet .scaled-jet .ensures) _ (is .jet .given .1) _ (by .before .measure .ensures) (by .judge .ensures) (c .before .enum-told4 .given .1)
 
 pub round-spec : {M : Type 1} → statement M
 round-spec =
@@ -77,7 +79,7 @@ round-spec =
     (λ c. search needs)
     (λ c. search needs)
     returns-2
-    (λ c κs. search needs)
+    measure-requires
     (λ c κs. search needs)
     (λ c. search needs)
     (λ c κs. search needs)
