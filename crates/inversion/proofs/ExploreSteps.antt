@@ -16,7 +16,7 @@ use Rattle.newton.specs.declared.Finished.{Finished}
 use Rattle.newton.specs.declared.Outcome.{Outcome}
 use Rattle.newton.specs.declared.Outcome.the-variants.{Ended, Refused, Spent}
 use Rattle.newton.specs.Run.{finished, run, outcomeOf}
-use Rattle.newton.specs.OutcomeLaws.{run-spent, run-refused, run-ended}
+use Rattle.newton.specs.OutcomeLaws.{spent-run, refused-run, ended-run}
 use Rattle.grid.specs.declared.Values.{Values}
 use Rattle.shortlist.specs.declared.Start.{Start}
 use Rattle.seeds.specs.declared.Walked.{Walked}
@@ -113,21 +113,21 @@ module _ (s : Surface) (m : Float) (mark : Vector3) (hint : Hint) (tolerance : F
         by false = omega (arith, after-price k (exploredOn s m mark (At (ofHint a)) k))
 
     pub hint-spent : o ≡ Spent → Answer.Spent ≡ answer
-    hint-spent z = too-dear budget _ (rw by-run (omega (arith, run-spent d mark (evaluateBy s m) u v budget e z, hinted-least (run d mark (evaluateBy s m) u v))))
+    hint-spent z = too-dear budget _ (rw by-run (omega (arith, spent-run d mark (evaluateBy s m) u v budget e z, hinted-least (run d mark (evaluateBy s m) u v))))
 
     pub hint-refused : (k : ℕ) → o ≡ Refused k → Answer.Refused k ≡ answer
     unfolding hinted
     hint-refused k z =
-        let p = run-refused d mark (evaluateBy s m) u v budget e k z in
+        let p = refused-run d mark (evaluateBy s m) u v budget e k z in
         rw (by-run, p .0) (refusal-told budget k (p .1))
 
     module _ (a : Finished) (k : ℕ) (ended : o ≡ Ended a k) where
       pub hint-fits : k ≤ budget
-      hint-fits = run-ended d mark (evaluateBy s m) u v budget e a k ended .1
+      hint-fits = ended-run d mark (evaluateBy s m) u v budget e a k ended .1
 
       weighed : inversionBy s m mark hint tolerance ≡ unlessClose (domainOf s) mark (evaluateBy s m) (valuesOf (axisU s)) (valuesOf (axisV s)) (within (a .end) tolerance) (a .end) k
       unfolding hinted
-      weighed = by-run ∙ rw (run-ended d mark (evaluateBy s m) u v budget e a k ended .0)
+      weighed = by-run ∙ rw (ended-run d mark (evaluateBy s m) u v budget e a k ended .0)
 
       pub hint-close : within (a .end) tolerance ≡ true → Answer.Chosen (ofHint (a .end)) k ≡ answer
       unfolding unlessClose

@@ -19,7 +19,7 @@ use Rattle.newton.specs.declared.Finished.{Finished}
 use Rattle.newton.specs.declared.Outcome.{Outcome}
 use Rattle.newton.specs.declared.Outcome.the-variants.{Ended, Refused, Spent}
 use Rattle.newton.specs.Run.{finished, run, outcomeOf}
-use Rattle.newton.specs.OutcomeLaws.{run-spent, run-refused, run-ended}
+use Rattle.newton.specs.OutcomeLaws.{spent-run, refused-run, ended-run}
 use Rattle.shortlist.specs.declared.Start.{Start}
 use Rattle.shortlist.specs.FirstSix.{startAt}
 use Rattle.inversion.specs.declared.Choice.{Choice}
@@ -97,8 +97,8 @@ module _ (d : Domain) (mark : Vector3) (eval : Float → Float → Evaluated) wh
   abbrev runFrom : Start → Priced End
   runFrom s = run d mark eval (s .u) (s .v)
 
-  abbrev runs-by : ℕ → Start → Outcome
-  runs-by budget s = outcomeOf (spend budget (finished d mark eval (s .u) (s .v)))
+  abbrev outcomeFrom : ℕ → Start → Outcome
+  outcomeFrom budget s = outcomeOf (spend budget (finished d mark eval (s .u) (s .v)))
 
   -- the run from the start in place i, and those after it
   module _ (b : Best) (k i : ℕ) (s : Start) (ss : List Start) where
@@ -139,7 +139,7 @@ module _ (d : Domain) (mark : Vector3) (eval : Float → Float → Evaluated) wh
         let q : length (take count at) ≤ i = omega (arith, length-take-le count at (s .fit)) in
         e ∙ ap (λ (p : Priced Choice). answerOf (spend budget p)) (sym (s .whole ∙ ap (after n) (ap (searched d mark eval b k (i + 1)) (drop-of-length-le (take count at) q) ∙ after-none (choose k (led b [])))))
 
-    module _ (l : i < count) {o : Outcome} (e : o ≡ runs-by (budget - n) (getD at i none)) where
+    module _ (l : i < count) {o : Outcome} (e : o ≡ outcomeFrom (budget - n) (getD at i none)) where
       abbrev rest : List Start
       rest = drop (i + 1) (take count at)
 
@@ -150,23 +150,23 @@ module _ (d : Domain) (mark : Vector3) (eval : Float → Float → Evaluated) wh
 
       pub search-spent : o ≡ Spent → Answer.Spent ≡ answerOf (spend budget a)
       search-spent f =
-          too-dear budget a (rw next (omega (arith, run-spent d mark eval _ _ (budget - n) e f, run-least b k (i + 1) (getD at i none) rest, after-price n (searched d mark eval b k (i + 1) (getD at i none ∷ rest)))))
+          too-dear budget a (rw next (omega (arith, spent-run d mark eval _ _ (budget - n) e f, run-least b k (i + 1) (getD at i none) rest, after-price n (searched d mark eval b k (i + 1) (getD at i none ∷ rest)))))
 
       pub run-fits : (m : ℕ) → o ≡ Refused m → n + m ≤ budget
-      run-fits m f = omega (arith, s .within, run-refused d mark eval _ _ (budget - n) e m f)
+      run-fits m f = omega (arith, s .within, refused-run d mark eval _ _ (budget - n) e m f)
 
       pub search-refused : (m : ℕ) → o ≡ Refused m → Answer.Refused (n + m) ≡ answerOf (spend budget a)
       unfolding after
       search-refused m f =
-          let p = run-refused d mark eval _ _ (budget - n) e m f in
+          let p = refused-run d mark eval _ _ (budget - n) e m f in
           rw (next, run-refuses b k (i + 1) (getD at i none) rest m (p .0)) (refusal-told budget (n + m) (run-fits m f))
 
       pub end-fits : (c : Finished) (m : ℕ) → o ≡ Ended c m → n + m ≤ budget
-      end-fits c m f = omega (arith, s .within, run-ended d mark eval _ _ (budget - n) e c m f)
+      end-fits c m f = omega (arith, s .within, ended-run d mark eval _ _ (budget - n) e c m f)
 
       pub search-goes : (c : Finished) (m : ℕ) → o ≡ Ended c m → {b' : Best} → b' ≡ kept b (record { end = c .end; origin = i + 1 }) → Stands a at count budget k (n + m) b' (i + 1)
       search-goes c m f g =
-          let p = run-ended d mark eval _ _ (budget - n) e c m f in
+          let p = ended-run d mark eval _ _ (budget - n) e c m f in
           record {
             fit = s .fit;
             within = end-fits c m f;

@@ -6,4 +6,3 @@ pub mod VisitLaws
 pub mod EndLaws
 pub mod OutcomeLaws
 pub mod RootLaws
-pub mod Examples

@@ -27,7 +27,7 @@ module _ (budget : ℕ) where
   short-told r h = rw (spend-short budget r h)
 
   module _ (r : Priced Finished) {o : Outcome} (e : o ≡ outcomeOf (spend budget r)) where
-    pub spent-back : o ≡ Spent → budget < price r
+    spent-back : o ≡ Spent → budget < price r
     unfolding outcomeOf
     spent-back f = by (spend budget r) refl (sym f ∙ e)
       where
@@ -36,7 +36,7 @@ module _ (budget : ℕ) where
         by (paid (refused n)) q z = absurd (let y : _≡_ {A = ℕ} 0 1 = cc in omega arith)
         by (paid (answered a n)) q z = absurd (let y : _≡_ {A = ℕ} 0 1 = cc in omega arith)
 
-    pub refused-back : (n : ℕ) → o ≡ Refused n → (r ≡ refused n) × (n ≤ budget)
+    refused-back : (n : ℕ) → o ≡ Refused n → (r ≡ refused n) × (n ≤ budget)
     unfolding outcomeOf
     refused-back n f = by (spend budget r) refl (sym f ∙ e)
       where
@@ -60,14 +60,14 @@ module _ (budget : ℕ) where
 -- ---- a run's end alone, from what the call answers
 
 module _ (d : Domain) (mark : Vector3) (eval : Float → Float → Evaluated) (u v : Float) (budget : ℕ) {o : Outcome} (e : o ≡ outcomeOf (spend budget (finished d mark eval u v))) where
-  pub run-spent : o ≡ Spent → budget < price (run d mark eval u v)
+  pub spent-run : o ≡ Spent → budget < price (run d mark eval u v)
   unfolding run
-  run-spent f = rw (mapped-price (λ (f : Finished). f .end) (finished d mark eval u v)) (spent-back budget _ e f)
+  spent-run f = rw (mapped-price (λ (f : Finished). f .end) (finished d mark eval u v)) (spent-back budget _ e f)
 
-  pub run-refused : (n : ℕ) → o ≡ Refused n → (run d mark eval u v ≡ refused n) × (n ≤ budget)
+  pub refused-run : (n : ℕ) → o ≡ Refused n → (run d mark eval u v ≡ refused n) × (n ≤ budget)
   unfolding run mapped
-  run-refused n f = let p = refused-back budget _ e n f in (rw (p .0), p .1)
+  refused-run n f = let p = refused-back budget _ e n f in (rw (p .0), p .1)
 
-  pub run-ended : (a : Finished) (n : ℕ) → o ≡ Ended a n → (run d mark eval u v ≡ answered (a .end) n) × (n ≤ budget)
+  pub ended-run : (a : Finished) (n : ℕ) → o ≡ Ended a n → (run d mark eval u v ≡ answered (a .end) n) × (n ≤ budget)
   unfolding run mapped
-  run-ended a n f = let p = ended-back budget _ e a n f in (rw (p .0), p .1)
+  ended-run a n f = let p = ended-back budget _ e a n f in (rw (p .0), p .1)

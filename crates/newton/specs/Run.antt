@@ -102,7 +102,7 @@ follow rest (onto h) = rest h
 abbrev pub finish : Iterate → Ending → ℕ → Finished
 finish at how n = record { end = record { at = at; ending = how }; roots = n }
 
--- a root, after n of them
+-- a point's distance from the mark: one root, after n of them
 abbrev pub measured : Vector3 → Jet → ℕ → Measured
 measured mark j n = record { distance = fromMark mark j; roots = suc n }
 
@@ -147,13 +147,14 @@ module _ (d : Domain) (mark : Vector3) where
     started u v Eval.Refused = refused 1
     started u v (Eval.Found j) = rounds 32 1 (begun mark u v j)
 
+    -- from (u, v)
     unfoldable pub finished : Float → Float → Priced Finished
     finished u v =
         let a = clampInto (d .u) u in
         let b = clampInto (d .v) v in
         started a b (eval a b)
 
-    -- its end alone
+    -- the same without its roots
     unfoldable pub run : Float → Float → Priced End
     run u v = mapped (λ f. f .end) (finished u v)
 
