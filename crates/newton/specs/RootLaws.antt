@@ -1,10 +1,10 @@
 -- A run takes one distance root for each evaluation, for every evaluation function. Assumes nothing.
 use Prim.Native.Nat.{ℕ, suc}
-use mathlib.Core.Path.{_≡_, refl, sym, ap, _∙_}
+use mathlib.Core.Path.{_≡_, refl, ap}
 use lib.ListN.{length}
 use lib.Ieee.{Float}
 use Rattle.vector3.specs.declared.Vector3.{Vector3}
-use Rattle.price.specs.Price.{Priced, answered, spend}
+use Rattle.price.specs.Price.{Priced, spend}
 use Rattle.price.specs.PriceLaws.{Answers}
 use Rattle.patch.specs.declared.Evaluated.{Evaluated}
 use Rattle.domain.specs.declared.Domain.{Domain}
@@ -12,7 +12,7 @@ use Rattle.newton.specs.declared.Finished.{Finished}
 use Rattle.newton.specs.declared.Held.{Held}
 use Rattle.newton.specs.declared.Outcome.the-variants.{Ended}
 use Rattle.newton.specs.Run.{onto, round, finished, outcomeOf}
-use Rattle.newton.specs.RunLaws.{halts, refuses, returns, lands, goes, Next, Carries, by-round, by-run}
+use Rattle.newton.specs.RunLaws.{halts, refuses, returns, lands, goes, Carries, by-round, by-run}
 use Rattle.newton.specs.OutcomeLaws.{ended-back}
 use Rattle.newton.specs.Visits.{visits}
 use Rattle.newton.specs.VisitLaws.{finished-evaluates}
