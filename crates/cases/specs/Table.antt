@@ -19,13 +19,14 @@ use Rattle.spline.specs.Knots.{Axis, axis}
 use Rattle.basis.specs.Basis.{Sample, sample, three, basisAt}
 use Rattle.price.specs.Price.{Priced, refused, answered, price, after, mapped, _then_}
 use Rattle.domain.specs.declared.Counts.{Counts}
+use Rattle.domain.specs.declared.Window.the-variants.{Whole}
 use Rattle.domain.specs.Intervals.{wrapped}
-use Rattle.surface.specs.Surface.{Surface, surface, axisU, axisV, scaleOf, refusalOfSurface, evaluateBy, domainOf}
+use Rattle.surface.specs.Surface.{Surface, surface, scaleOf, refusalOfSurface, evaluateBy, windowOf}
 use Rattle.newton.specs.declared.Ending.{Ending}
 use Rattle.newton.specs.declared.Ending.the-variants.{Unchanged, SecondSingular}
 use Rattle.newton.specs.declared.End.{End}
 use Rattle.newton.specs.Run.{run}
-use Rattle.grid.specs.Axis.{valuesOf}
+use Rattle.window.specs.Values.{valuesU, valuesV}
 use Rattle.shortlist.specs.declared.Start.{Start}
 use Rattle.shortlist.specs.FirstSix.{startAt, startsOf}
 use Rattle.shortlist.specs.Compute as Shortlist
@@ -118,7 +119,7 @@ abbrev to : Float → List Float
 to last = 0· ∷ 0· ∷ last ∷ last ∷ []
 
 abbrev bilinear : List Float → List Float → Surface
-bilinear knotsV controls = surface (record { u = linear; v = linear }) (to 1·) knotsV controls (replicate 4 1·)
+bilinear knotsV controls = surface (record { u = linear; v = linear; window = Whole }) (to 1·) knotsV controls (replicate 4 1·)
 
 abbrev corners : List Float
 corners = 0· ∷ 0· ∷ 0· ∷ 0· ∷ 1· ∷ 0· ∷ 1· ∷ 0· ∷ 0· ∷ 1· ∷ 1· ∷ 0· ∷ []
@@ -171,7 +172,7 @@ collapsed k value point side = Collapsed (record { k = k; value = value; point =
 
 -- the points of a surface's grid, with their distances from a mark
 abbrev grid : Surface → Vector3 → Priced (List Start)
-grid s m = survey m (evaluateBy s (scaleOf s)) (valuesOf (axisU s)) (valuesOf (axisV s))
+grid s m = survey m (evaluateBy s (scaleOf s)) (valuesU s) (valuesV s)
 
 -- ---- what a row says
 
@@ -198,7 +199,7 @@ Holds (wraps t r) = wrapped true 0· 1· t ≡ r
 -- of all points of the grid, in its order
 Holds (distances s m r) = mapped (map (λ (p : Start). p .distance)) (grid s m) ≡ r
 Holds (starts s m r) = mapped startsOf (grid s m) ≡ r
-Holds (runs-end s m ss r) = runs (domainOf s) m (evaluateBy s (scaleOf s)) ss ≡ r
+Holds (runs-end s m ss r) = runs (windowOf s) m (evaluateBy s (scaleOf s)) ss ≡ r
 -- with no periods; nothing is left of the budget
 Holds (inverts s m h t budget r number) = (placed s m (terms h t) budget ≡ r) × (Chart.numberOf r ≡ number) × (Chart.leftOf budget r ≡ 0)
 -- with a budget of 1, of which nothing is left
@@ -333,7 +334,7 @@ module _ (s : Surface) (m : Vector3) (t : Float) (ss : List Start) (n : ℕ) (es
   without-hint = rw (h, r)
 
   -- the hint's run ends further than the tolerance
-  with-hint : (u v : Float) (e : End) (k : ℕ) → run (domainOf s) m (evaluateBy s (scaleOf s)) u v ≡ answered e k → le (e .at .distance) t ≡ false → inversionBy s (scaleOf s) m (At u v) t ≡ after k (chosen (Best.At (from 0 e)) k)
+  with-hint : (u v : Float) (e : End) (k : ℕ) → run (windowOf s) m (evaluateBy s (scaleOf s)) u v ≡ answered e k → le (e .at .distance) t ≡ false → inversionBy s (scaleOf s) m (At u v) t ≡ after k (chosen (Best.At (from 0 e)) k)
   unfolding inversionBy plainSteps hinted unlessClose explored searched _then_
   with-hint u v e k i f = rw (i, f, h, r)
 

@@ -8,12 +8,18 @@ use Rattle.float64.specs.Functions.{isFinite, clamp, remEuclid}
 use Rattle.spline.specs.Knots.{Axis, axis, low, high}
 use Rattle.domain.specs.declared.Counts.{Counts}
 use Rattle.domain.specs.declared.Interval.{Interval}
+use Rattle.domain.specs.declared.Shape.{Shape}
+use Rattle.domain.specs.declared.Domain.{Domain}
 
 abbrev pub axisOf : Counts → List Float → Axis
 axisOf n ks = axis (n .degree) (n .controls) ks
 
 abbrev pub intervalOf : Counts → List Float → Interval
 intervalOf n ks = let a = axisOf n ks in record { low = low a; high = high a; periodic = n .periodic }
+
+-- of both axes
+abbrev pub domainOn : Shape → List Float → List Float → Domain
+domainOn shape ku kv = record { u = intervalOf (shape .u) ku; v = intervalOf (shape .v) kv }
 
 -- a parameter on a periodic axis, brought into the domain from lo to hi
 unfoldable pub wrapped : Bool → Float → Float → Float → Float

@@ -9,7 +9,7 @@ use float64::rem_euclid;
 ghost use mathlib.Core.Path.{_≡_};
 ghost use Prim.Native.Nat.{_≤_};
 ghost use Rattle.spline.specs.Knots.{refusalOfKnots};
-ghost use Rattle.domain.specs.Intervals.{axisOf, eighthOf, intervalOf, wrappedOn};
+ghost use Rattle.domain.specs.Intervals.{axisOf, domainOn, eighthOf, intervalOf, wrappedOn};
 
 fn interval_of(counts: Counts, knots: &[f64]) -> Interval
     requires { ⌜ refusalOfKnots (axisOf counts (now knots)) ≡ 0 ⌝ }
@@ -26,7 +26,7 @@ fn interval_of(counts: Counts, knots: &[f64]) -> Interval
 
 pub fn domain_of(shape: Shape, ku: &[f64], kv: &[f64]) -> Domain
     requires { ⌜ (refusalOfKnots (axisOf (shape .u) (now ku)) ≡ 0) × (refusalOfKnots (axisOf (shape .v) (now kv)) ≡ 0) ⌝ }
-    ensures { λ r. ⌜ (r .u ≡ intervalOf (shape .u) (now (ku .entry))) × (r .v ≡ intervalOf (shape .v) (now (kv .entry))) ⌝ }
+    ensures { λ r. ⌜ r ≡ domainOn shape (now (ku .entry)) (now (kv .entry)) ⌝ }
 {
     Domain {
         u: interval_of(shape.u, ku),

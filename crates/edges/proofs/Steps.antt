@@ -91,11 +91,11 @@ module _ (eval : Float → Float → Evaluated) (tolerance : Float) (l : Line) (
 -- ---- the call
 
 module _ (s : Surface) (tolerance : Float) where
-  module _ (m : Float) {d : Domain} (e : (d .u ≡ domainOf s .u) × (d .v ≡ domainOf s .v)) {a b c f : Line} (g : a ≡ line 0 (d .u) (d .v .low)) (h : b ≡ line 0 (d .u) (d .v .high)) (i : c ≡ line 1 (d .v) (d .u .low)) (j : f ≡ line 1 (d .v) (d .u .high)) where
+  module _ (m : Float) {d : Domain} (e : d ≡ domainOf s) {a b c f : Line} (g : a ≡ line 0 (d .u) (d .v .low)) (h : b ≡ line 0 (d .u) (d .v .high)) (i : c ≡ line 1 (d .v) (d .u .low)) (j : f ≡ line 1 (d .v) (d .u .high)) where
     pub all-told : {p q r t : Edge} → p ≡ edgeOf (evaluateBy s m) tolerance a 1· → q ≡ edgeOf (evaluateBy s m) tolerance b (neg 1·)
         → r ≡ edgeOf (evaluateBy s m) tolerance c 1· → t ≡ edgeOf (evaluateBy s m) tolerance f (neg 1·) → Found p q r t ≡ edgesOf s m tolerance
     unfolding edgesOf
-    all-told p q r t = simp (p, q, r, t, g, h, i, j, e .0, e .1)
+    all-told p q r t = simp (p, q, r, t, g, h, i, j, e)
 
   module _ (m : Float) {b : Bool} (e : b ≡ soundTolerance tolerance) where
     pub not-sound : b ≡ false → Refusal 7 ≡ tested s m tolerance (soundTolerance tolerance)

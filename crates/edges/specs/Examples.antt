@@ -6,6 +6,7 @@ use Prim.Native.Nat.{ℕ}
 use lib.Ieee.{Float, nan, inf, neg}
 use Rattle.float64.specs.Operators.{0·, 1·}
 use Rattle.domain.specs.declared.Counts.{Counts}
+use Rattle.domain.specs.declared.Window.the-variants.{Whole}
 use Rattle.surface.specs.Surface.{Surface, surface}
 use Rattle.edges.specs.declared.Edge.{Edge}
 use Rattle.edges.specs.declared.Edge.the-variants.{Collapsed}
@@ -21,7 +22,7 @@ ends = 0· ∷ 0· ∷ 1· ∷ 1· ∷ []
 
 -- all controls are the origin
 dot : Surface
-dot = surface (record { u = linear; v = linear }) ends ends (0· ∷ 0· ∷ 0· ∷ 0· ∷ 0· ∷ 0· ∷ 0· ∷ 0· ∷ 0· ∷ 0· ∷ 0· ∷ 0· ∷ []) (1· ∷ 1· ∷ 1· ∷ 1· ∷ [])
+dot = surface (record { u = linear; v = linear; window = Whole }) ends ends (0· ∷ 0· ∷ 0· ∷ 0· ∷ 0· ∷ 0· ∷ 0· ∷ 0· ∷ 0· ∷ 0· ∷ 0· ∷ 0· ∷ []) (1· ∷ 1· ∷ 1· ∷ 1· ∷ [])
 
 origin : ℕ → Float → Float → Edge
 origin k value side = Collapsed (record { k = k; value = value; point = record { x = 0·; y = 0·; z = 0· }; side = side })

@@ -7,13 +7,12 @@ use native.Mathlib.Numerals.{add-one}
 use native.Mathlib.Omega.{arith}
 use lib.ListN.{length, getD, set, take, drop, length-append, drop-of-length-le}
 use lib.Seq.{drop-cons, take-suc-set, getD-take, length-take-le}
-use lib.Ieee.{Float, nan, div, ofBits, lt, eq}
+use lib.Ieee.{Float, nan, div, ofBits, eq}
 use Rattle.float64.specs.Operators.{_⊘_, 0·}
-use Rattle.spline.specs.Knots.{Axis, high, refusalOfKnots}
+use Rattle.spline.specs.Knots.{Axis, refusalOfKnots}
 use Rattle.domain.specs.Intervals.{eighthOf}
-use Rattle.grid.specs.Axis.{filter, distinct, every, breaksOf, stride, thinned, eighths, between, valuesOf}
-use Rattle.grid.specs.AxisLaws.{inDomain, breaksWithin, fresh, fresh-nan, Sorted, distinct-closed, kept, kept-most, kept-sorted}
-use Rattle.grid.specs.AxisLaws.Sorted.{from}
+use Rattle.grid.specs.Axis.{filter, every, firstEqual, Within, startOf, endOf, innerOf, stride, eighths, between, valuesOf}
+use Rattle.grid.specs.AxisLaws.{isInner, innerWithin, fresh, fresh-nan, kept, kept-most, thinned-kept}
 
 -- one more element in an array
 pub pushed : (at : List Float) (n : ℕ) (t : Float) → n < length at → take (n + 1) (set at n t) ≡ take n at ++ (t ∷ [])
@@ -22,19 +21,19 @@ pushed at n t h = rw (add-one n) (take-suc-set at n t h)
 pub counted : (n m : ℕ) (xs ys : List Float) (t : Float) → n ≡ length xs → ys ≡ xs ++ (t ∷ []) → m ≡ n + 1 → m ≡ length ys
 counted n m xs ys t e p q = omega (arith, ap length p, length-append xs (t ∷ []))
 
--- the breaks among knots, where x is the break before
+-- the distinct knots inside, where x is the one before
 abbrev pub ahead : Float → Float → Float → List Float → List Float
-ahead lo hi x ks = fresh x (filter (inDomain lo hi) ks)
+ahead lo hi x ks = fresh x (filter (isInner lo hi) ks)
 
-ahead-more : (lo hi x t : Float) (ts : List Float) → ahead lo hi x (t ∷ ts) ≡ cond (inDomain lo hi t && not (eq x t)) (t ∷ ahead lo hi t ts) (ahead lo hi x ts)
+ahead-more : (lo hi x t : Float) (ts : List Float) → ahead lo hi x (t ∷ ts) ≡ cond (isInner lo hi t && not (eq x t)) (t ∷ ahead lo hi t ts) (ahead lo hi x ts)
 unfolding filter fresh
-ahead-more lo hi x t ts = by (inDomain lo hi t)
+ahead-more lo hi x t ts = by (isInner lo hi t)
   where
     differs : (e : Bool) → cond e (ahead lo hi x ts) (t ∷ ahead lo hi t ts) ≡ cond (not e) (t ∷ ahead lo hi t ts) (ahead lo hi x ts)
     differs true = refl
     differs false = refl
 
-    by : (b : Bool) → fresh x (cond b (t ∷ filter (inDomain lo hi) ts) (filter (inDomain lo hi) ts)) ≡ cond (b && not (eq x t)) (t ∷ ahead lo hi t ts) (ahead lo hi x ts)
+    by : (b : Bool) → fresh x (cond b (t ∷ filter (isInner lo hi) ts) (filter (isInner lo hi) ts)) ≡ cond (b && not (eq x t)) (t ∷ ahead lo hi t ts) (ahead lo hi x ts)
     by true = differs (eq x t)
     by false = refl
 
@@ -42,15 +41,15 @@ nan-zero : 0· ⊘ 0· ≡ nan
 unfolding div ofBits
 nan-zero = refl
 
-pub ahead-begin : (lo hi : Float) (ks : List Float) → breaksWithin lo hi ks ≡ ahead lo hi (0· ⊘ 0·) ks
-ahead-begin lo hi ks = rw nan-zero (fresh-nan (filter (inDomain lo hi) ks))
+ahead-begin : (lo hi : Float) (ks : List Float) → innerWithin lo hi ks ≡ ahead lo hi (0· ⊘ 0·) ks
+ahead-begin lo hi ks = rw nan-zero (fresh-nan (filter (isInner lo hi) ks))
 
 ahead-over : (lo hi x : Float) (ks : List Float) (i : ℕ) → length ks ≤ i → ahead lo hi x (drop i ks) ≡ []
 unfolding filter fresh
 ahead-over lo hi x ks i h = rw (drop-of-length-le ks h)
 
 -- the knot at i, with the answer b of its test
-module _ (lo hi x : Float) (ks : List Float) (i : ℕ) (h : i < length ks) (b : Bool) (e : b ≡ (inDomain lo hi (getD ks i nan) && not (eq x (getD ks i nan)))) where
+module _ (lo hi x : Float) (ks : List Float) (i : ℕ) (h : i < length ks) (b : Bool) (e : b ≡ (isInner lo hi (getD ks i nan) && not (eq x (getD ks i nan)))) where
   ahead-step : ahead lo hi x (drop i ks) ≡ cond b (getD ks i nan ∷ ahead lo hi (getD ks i nan) (drop (i + 1) ks)) (ahead lo hi x (drop (i + 1) ks))
   ahead-step = rw (add-one i, drop-cons ks i nan h, e) (ahead-more lo hi x (getD ks i nan) (drop (suc i) ks))
 
@@ -60,7 +59,7 @@ module _ (lo hi x : Float) (ks : List Float) (i : ℕ) (h : i < length ks) (b : 
   ahead-same : b ≡ false → ahead lo hi x (drop i ks) ≡ ahead lo hi x (drop (i + 1) ks)
   ahead-same t = ahead-step ∙ rw t
 
-  -- the breaks counted: n in all, and m before
+  -- the knots inside counted: n in all, and m before
   module _ (n m : ℕ) (p : n ≡ m + length (ahead lo hi x (drop i ks))) where
     pub count-new : b ≡ true → n ≡ m + 1 + length (ahead lo hi (getD ks i nan) (drop (i + 1) ks))
     count-new t = omega (arith, ap length (ahead-new t))
@@ -68,14 +67,14 @@ module _ (lo hi x : Float) (ks : List Float) (i : ℕ) (h : i < length ks) (b : 
     pub count-same : b ≡ false → n ≡ m + length (ahead lo hi x (drop (i + 1) ks))
     count-same t = p ∙ ap (λ (r : List Float). m + length r) (ahead-same t)
 
-pub count-begin : (lo hi : Float) (ks : List Float) → length (breaksWithin lo hi ks) ≡ 0 + length (ahead lo hi (0· ⊘ 0·) ks)
+pub count-begin : (lo hi : Float) (ks : List Float) → length (innerWithin lo hi ks) ≡ 0 + length (ahead lo hi (0· ⊘ 0·) ks)
 count-begin lo hi ks = omega (arith, ap length (ahead-begin lo hi ks))
 
 pub count-over : (lo hi x : Float) (ks : List Float) (i n m : ℕ) → n ≡ m + length (ahead lo hi x (drop i ks)) → length ks ≤ i → m ≡ n
 count-over lo hi x ks i n m p h = omega (arith, ap length (ahead-over lo hi x ks i h))
 
 -- ---- every so many
--- w is what was kept, xs, and then what `every` gives of the rest with k skipped first; b, whether the knot t is a break; r and r', what is ahead if it is not and if it is
+-- w is what was kept, xs, and then what `every` gives of the rest with k skipped first; b, whether the knot t is the next inside; r and r', what is ahead if it is not and if it is
 pub record Turn (w xs : List Float) (s k : ℕ) (b : Bool) (t : Float) (r r' : List Float) : Type 0 where
   pub keep : b ≡ true → k ≡ 0 → w ≡ (xs ++ (t ∷ [])) ++ every s s r'
   pub room : b ≡ true → k ≡ 0 → length xs < length w
@@ -87,7 +86,7 @@ unfolding every
 every-skip s zero t r n = absurd (n refl)
 every-skip s (suc k) t r n = let q : suc k - 1 ≡ k = omega arith in rw q
 
-pub thin-turn : (lo hi x : Float) (ks : List Float) (i : ℕ) → i < length ks → (b : Bool) → b ≡ (inDomain lo hi (getD ks i nan) && not (eq x (getD ks i nan)))
+pub thin-turn : (lo hi x : Float) (ks : List Float) (i : ℕ) → i < length ks → (b : Bool) → b ≡ (isInner lo hi (getD ks i nan) && not (eq x (getD ks i nan)))
     → (w xs : List Float) (s k : ℕ) → w ≡ xs ++ every s k (ahead lo hi x (drop i ks))
     → Turn w xs s k b (getD ks i nan) (ahead lo hi x (drop (i + 1) ks)) (ahead lo hi (getD ks i nan) (drop (i + 1) ks))
 unfolding every
@@ -107,29 +106,13 @@ thin-turn lo hi x ks i h b test w xs s k e = record {
     keep : b ≡ true → k ≡ 0 → w ≡ (xs ++ (t ∷ [])) ++ every s s r'
     keep y z = e ∙ rw (ahead-new lo hi x ks i h b test y, z, append-assoc)
 
+pub thin-begin : (lo hi x : Float) (ks : List Float) (s : ℕ) → every s 0 (x ∷ innerWithin lo hi ks) ≡ (x ∷ []) ++ every s s (ahead lo hi (0· ⊘ 0·) ks)
+unfolding every
+thin-begin lo hi x ks s = ap (λ (r : List Float). x ∷ every s s r) (ahead-begin lo hi ks)
+
 pub thin-over : (lo hi x : Float) (ks : List Float) (i : ℕ) → length ks ≤ i → (w xs : List Float) (s k : ℕ) → w ≡ xs ++ every s k (ahead lo hi x (drop i ks)) → xs ≡ w
 unfolding every
 thin-over lo hi x ks i h w xs s k e = sym (e ∙ rw (ahead-over lo hi x ks i h, append-nil))
-
--- ---- the domain's end
-sorted-closed : (xs : List Float) (n : ℕ) (e : Float) → Sorted lt xs → length xs ≡ suc n → distinct (xs ++ (e ∷ [])) ≡ cond (eq (getD xs n nan) e) xs (xs ++ (e ∷ []))
-unfolding distinct
-sorted-closed [] n e s l = absurd (omega arith)
-sorted-closed (x ∷ xs) n e (from c) l =
-    let q : n ≡ length xs = omega arith in
-    rw q (distinct-closed x xs e c)
-
-module _ (at : List Float) (n : ℕ) (e : Float) (s : Sorted lt (take n at)) (p : 0 < n) (l : n ≤ length at) where
-  closed-by : distinct (take n at ++ (e ∷ [])) ≡ cond (eq (getD at (n - 1) nan) e) (take n at) (take n at ++ (e ∷ []))
-  closed-by =
-      sorted-closed (take n at) (n - 1) e s (omega (arith, length-take-le n at l))
-      ∙ ap (λ (z : Float). cond (eq z e) (take n at) (take n at ++ (e ∷ []))) (getD-take n at (n - 1) nan (omega arith))
-
-  pub closed-same : eq (getD at (n - 1) nan) e ≡ true → take n at ≡ distinct (take n at ++ (e ∷ []))
-  closed-same t = sym (closed-by ∙ rw t)
-
-  pub closed-more : eq (getD at (n - 1) nan) e ≡ false → take n at ++ (e ∷ []) ≡ distinct (take n at ++ (e ∷ []))
-  closed-more t = sym (closed-by ∙ rw t)
 
 -- ---- the values
 eighths-more : (j : ℕ) (x y : Float) → j < 8 → eighths (8 - j) j x y ≡ eighthOf x y j ∷ eighths (8 - (j + 1)) (j + 1) x y
@@ -174,16 +157,35 @@ module _ (w xs at : List Float) (n i : ℕ) (x : Float) (e : w ≡ xs ++ between
   pub between-end : n ≤ i → (vs : List Float) (m : ℕ) (z : Float) → xs ≡ take m vs → m < length vs → take (m + 1) (set vs m z) ≡ w ++ (z ∷ [])
   between-end h vs m z p k = pushed vs m z k ∙ ap (λ (r : List Float). r ++ (z ∷ [])) (sym p ∙ between-over h)
 
--- ---- the parts of an accepted axis put together
-pub step-kept : (bs : List Float) (n s : ℕ) → n ≡ length bs → s ≡ stride n → every (s - 1) 0 bs ≡ kept bs
-step-kept bs n s p q = rw (q, p)
+-- ---- the first of equal knots
+firsts-more : (x t : Float) (ts : List Float) → firstEqual x (t ∷ ts) ≡ cond (eq t x) t (firstEqual x ts)
+unfolding firstEqual
+firsts-more x t ts = refl
 
-module _ (a : Axis) (ks : List Float) (k : ks ≡ kept (breaksOf a)) where
-  pub closable : refusalOfKnots a ≡ 0 → (n : ℕ) → n ≡ length ks → (0 < n) × (n < 25) × Sorted lt ks
-  closable ok n e =
-      let s = kept-sorted a ok in
-      (omega (arith, ap length k), omega (arith, ap length k, kept-most (breaksOf a)), rw k (s .0))
+-- w is what is looked for, and what the knots from i on give
+module _ (w x : Float) (ks : List Float) (i : ℕ) (e : w ≡ firstEqual x (drop i ks)) where
+  first-at : i < length ks → w ≡ cond (eq (getD ks i nan) x) (getD ks i nan) (firstEqual x (drop (i + 1) ks))
+  first-at h = e ∙ rw (add-one i, drop-cons ks i nan h) (firsts-more x (getD ks i nan) (drop (suc i) ks))
 
-  pub put-together : (bs vs : List Float) → bs ≡ distinct (ks ++ (high a ∷ [])) → vs ≡ between bs ++ (high a ∷ []) → vs ≡ valuesOf a
-  unfolding valuesOf thinned
-  put-together bs vs p q = q ∙ rw (p, k)
+  pub first-met : i < length ks → eq (getD ks i nan) x ≡ true → getD ks i nan ≡ w
+  first-met h t = sym (first-at h ∙ rw t)
+
+  pub first-past : i < length ks → eq (getD ks i nan) x ≡ false → w ≡ firstEqual x (drop (i + 1) ks)
+  first-past h t = first-at h ∙ rw t
+
+  pub first-none : length ks ≤ i → x ≡ w
+  unfolding firstEqual
+  first-none h = sym (e ∙ rw (drop-of-length-le ks h))
+
+-- ---- the parts put together
+module _ (a : Axis) (lo hi x : Float) (n s : ℕ) (start : x ≡ startOf a lo) (count : n ≡ length (innerOf a lo hi)) (step : s ≡ stride (n + 2)) where
+  kept-here : every (s - 1) 0 (x ∷ innerOf a lo hi) ≡ kept a lo hi
+  kept-here = rw (start, step, count)
+
+  pub few-kept : length (every (s - 1) 0 (x ∷ innerOf a lo hi)) ≤ 24
+  few-kept = rw kept-here (kept-most a lo hi)
+
+  pub put-together : refusalOfKnots a ≡ 0 → Within a lo hi → (e : Float) (ks bs vs : List Float) → e ≡ endOf a hi → ks ≡ every (s - 1) 0 (x ∷ innerOf a lo hi) → bs ≡ ks ++ (e ∷ [])
+      → vs ≡ between bs ++ (e ∷ []) → vs ≡ valuesOf a lo hi
+  unfolding valuesOf
+  put-together ok w e ks bs vs end k b v = v ∙ rw (b, k, end, kept-here, thinned-kept a ok lo hi w)

@@ -1,9 +1,10 @@
--- The grid's values on an axis: every knot span of the domain in eighths, of dense knots only every second, third and so on. Definitions only.
+-- The grid's values on an axis in a window: each span between the window's ends and the knots between them in eighths, of dense knots only every second, third and so on. Definitions only.
+use mathlib.Core.Path.{_≡_}
 use Prim.Native.Nat.{ℕ, zero, suc, _+_, _-_, _/_, max}
-use mathlib.Core.Bool.{Bool, cond, _&&_}
+use mathlib.Core.Bool.{Bool, true, cond, _&&_}
 use mathlib.Core.List.{List, [], _∷_, _++_}
 use lib.ListN.{length, take}
-use lib.Ieee.{Float, le, eq}
+use lib.Ieee.{Float, lt, le, eq}
 use Rattle.spline.specs.Knots.{Axis, low, high}
 use Rattle.domain.specs.Intervals.{eighthOf}
 use Rattle.grid.specs.declared.Values.{Values}
@@ -27,18 +28,37 @@ every s k [] = []
 every s zero (x ∷ xs) = x ∷ every s s xs
 every s (suc k) (x ∷ xs) = every s k xs
 
--- the distinct knots of the domain
-unfoldable pub breaksOf : Axis → List Float
-breaksOf a = distinct (filter (λ t. le (low a) t && le t (high a)) (a .knots))
+-- the first of the numbers that equals x, or x
+unfoldable pub firstEqual : Float → List Float → Float
+firstEqual x [] = x
+firstEqual x (k ∷ ks) = cond (eq k x) k (firstEqual x ks)
+
+-- a window of the knot domain, from lo to hi
+abbrev pub Within : Axis → Float → Float → Type 0
+Within a lo hi = (lt lo hi ≡ true) × (le (low a) lo ≡ true) × (le hi (high a) ≡ true)
+
+-- where the window begins and ends: an end that equals the domain's has the source's bits, those of the first of equal knots and of the domain's high end
+unfoldable pub startOf : Axis → Float → Float
+startOf a lo = cond (eq lo (low a)) (firstEqual lo (a .knots)) lo
+
+unfoldable pub endOf : Axis → Float → Float
+endOf a hi = cond (eq hi (high a)) (high a) hi
+
+-- the distinct knots strictly between
+unfoldable pub innerOf : Axis → Float → Float → List Float
+innerOf a lo hi = distinct (filter (λ t. lt lo t && lt t hi) (a .knots))
+
+unfoldable pub breaksOf : Axis → Float → Float → List Float
+breaksOf a lo hi = startOf a lo ∷ (innerOf a lo hi ++ (endOf a hi ∷ []))
 
 -- so that at most 24 are left
 unfoldable pub stride : ℕ → ℕ
 stride n = max 1 ((n + 23) / 24)
 
-unfoldable pub thinned : Axis → List Float
-thinned a =
-    let bs = breaksOf a in
-    distinct (every (stride (length bs) - 1) 0 bs ++ (high a ∷ []))
+unfoldable pub thinned : Axis → Float → Float → List Float
+thinned a lo hi =
+    let bs = breaksOf a lo hi in
+    distinct (every (stride (length bs) - 1) 0 bs ++ (endOf a hi ∷ []))
 
 -- k values from the j-th eighth between x and y on
 unfoldable pub eighths : ℕ → ℕ → Float → Float → List Float
@@ -50,9 +70,9 @@ between [] = []
 between (x ∷ []) = []
 between (x ∷ y ∷ ys) = eighths 8 0 x y ++ between (y ∷ ys)
 
--- the last value is the domain's end, with its bits
-unfoldable pub valuesOf : Axis → List Float
-valuesOf a = between (thinned a) ++ (high a ∷ [])
+-- the last value is the window's end
+unfoldable pub valuesOf : Axis → Float → Float → List Float
+valuesOf a lo hi = between (thinned a lo hi) ++ (endOf a hi ∷ [])
 
 -- the values that an array of them holds
 abbrev pub listed : Values → List Float

@@ -1,14 +1,14 @@
-// The grid's values on an axis of accepted knots: every knot span of the domain in eighths.
+// The grid's values on an axis of accepted knots, in a window of the domain: every span between the window's ends and the knots between them in eighths.
 use domain::eighth;
 ghost use mathlib.Core.Path.{_≡_};
-ghost use mathlib.Core.Bool.{not, _&&_};
+ghost use mathlib.Core.Bool.{not, cond, _&&_};
 ghost use mathlib.Core.List.{[], _∷_, _++_};
 ghost use Prim.Native.Nat.{_+_, _≤_, _<_};
 ghost use lib.ListN.{length, take};
-ghost use lib.Ieee.{lt, eq};
+ghost use lib.Ieee.{eq};
 ghost use Rattle.spline.specs.Knots.{axis, refusalOfKnots};
-ghost use Rattle.grid.specs.Axis.{distinct, every, stride, eighths, between, valuesOf, listed};
-ghost use Rattle.grid.specs.AxisLaws.{inDomain, breaksWithin, Sorted};
+ghost use Rattle.grid.specs.Axis.{every, firstEqual, Within, stride, eighths, between, valuesOf, listed};
+ghost use Rattle.grid.specs.AxisLaws.{isInner, innerWithin};
 
 // The breaks of an axis from which its values are made, and the values themselves.
 pub struct Breaks {
@@ -21,22 +21,53 @@ pub struct Values {
     pub count: usize,
 }
 
-// A knot of the domain that differs from the break before it.
-fn is_break(low: f64, high: f64, last: f64, t: f64) -> bool
-    ensures { λ r. ⌜ r ≡ (inDomain low high t && not (eq last t)) ⌝ }
+fn first_equal(knots: &[f64], x: f64) -> f64
+    ensures { λ r. ⌜ r ≡ firstEqual x (now (knots .entry)) ⌝ }
 {
-    low <= t && t <= high && !(last == t)
+    for i in 0..knots.len() {
+        let t = knots[i];
+        if t == x {
+            return t;
+        }
+    }
+    x
 }
 
-// Before the first break stands a NaN, which nothing equals.
-fn count_breaks(knots: &[f64], low: f64, high: f64) -> usize
-    ensures { λ r. ⌜ (r ≡ length (breaksWithin low high (now (knots .entry)))) × (r ≤ length (now (knots .entry))) ⌝ }
+// The window's ends, with the bits of the knots where they equal the domain's.
+fn start_of(knots: &[f64], domain: f64, low: f64) -> f64
+    ensures { λ r. ⌜ r ≡ cond (eq low domain) (firstEqual low (now (knots .entry))) low ⌝ }
+{
+    if low == domain {
+        return first_equal(knots, low);
+    }
+    low
+}
+
+fn end_of(domain: f64, high: f64) -> f64
+    ensures { λ r. ⌜ r ≡ cond (eq high domain) domain high ⌝ }
+{
+    if high == domain {
+        return domain;
+    }
+    high
+}
+
+// A knot inside the window that differs from the one inside before it.
+fn is_inner(low: f64, high: f64, last: f64, t: f64) -> bool
+    ensures { λ r. ⌜ r ≡ (isInner low high t && not (eq last t)) ⌝ }
+{
+    low < t && t < high && !(last == t)
+}
+
+// Before the first knot inside stands a NaN, which nothing equals.
+fn count_inner(knots: &[f64], low: f64, high: f64) -> usize
+    ensures { λ r. ⌜ (r ≡ length (innerWithin low high (now (knots .entry)))) × (r ≤ length (now (knots .entry))) ⌝ }
 {
     let mut last = 0.0 / 0.0;
     let mut count: usize = 0;
     for i in 0..knots.len() {
         let t = knots[i];
-        if is_break(low, high, last, t) {
+        if is_inner(low, high, last, t) {
             last = t;
             count += 1;
         }
@@ -68,20 +99,20 @@ fn add_break(b: Breaks, t: f64) -> Breaks
     }
 }
 
-// The first break, and then with so many skipped before each.
-fn thin(knots: &[f64], low: f64, high: f64, skip: usize) -> Breaks
-    requires { ⌜ length (every skip 0 (breaksWithin low high (now knots))) ≤ 24 ⌝ }
-    ensures { λ r. ⌜ (take (r .count) (r .at) ≡ every skip 0 (breaksWithin low high (now (knots .entry)))) × (r .count ≡ length (take (r .count) (r .at))) ⌝ }
+// The start, and then of the knots inside those with so many skipped before each.
+fn thin(knots: &[f64], low: f64, high: f64, start: f64, skip: usize) -> Breaks
+    requires { ⌜ length (every skip 0 (start ∷ innerWithin low high (now knots))) ≤ 24 ⌝ }
+    ensures { λ r. ⌜ (take (r .count) (r .at) ≡ every skip 0 (start ∷ innerWithin low high (now (knots .entry)))) × (r .count ≤ 24) ⌝ }
 {
     let mut out = Breaks {
-        at: [0.0; 25],
-        count: 0,
+        at: [start; 25],
+        count: 1,
     };
     let mut last = 0.0 / 0.0;
-    let mut left: usize = 0;
+    let mut left = skip;
     for i in 0..knots.len() {
         let t = knots[i];
-        if is_break(low, high, last, t) {
+        if is_inner(low, high, last, t) {
             last = t;
             if left == 0 {
                 out = add_break(out, t);
@@ -92,19 +123,6 @@ fn thin(knots: &[f64], low: f64, high: f64, skip: usize) -> Breaks
         }
     }
     out
-}
-
-// The domain's end after breaks that rise, unless the last of them equals it.
-fn closed(b: Breaks, end: f64) -> Breaks
-    requires { ⌜ (0 < b .count) × (b .count < 25) × Sorted lt (take (b .count) (b .at)) ⌝ }
-    ensures { λ r. ⌜ (take (r .count) (r .at) ≡ distinct (take (b .count) (b .at) ++ (end ∷ []))) × (0 < r .count) × (r .count ≤ 25) ⌝ }
-{
-    let at = b.at;
-    let count = b.count;
-    if at[count - 1] == end {
-        return b;
-    }
-    add_break(b, end)
 }
 
 // The eighths from x to y, from the place n on.
@@ -136,13 +154,13 @@ fn in_eighths(b: Breaks, end: f64) -> Values
     Values { at, count: n + 1 }
 }
 
-pub fn axis_values(knots: &[f64], degree: usize, controls: usize) -> Values
-    requires { ⌜ refusalOfKnots (axis degree controls (now knots)) ≡ 0 ⌝ }
-    ensures { λ r. ⌜ (listed r ≡ valuesOf (axis degree controls (now (knots .entry)))) × (r .count ≤ 193) ⌝ }
+pub fn axis_values(knots: &[f64], degree: usize, controls: usize, low: f64, high: f64) -> Values
+    requires { ⌜ (refusalOfKnots (axis degree controls (now knots)) ≡ 0) × Within (axis degree controls (now knots)) low high ⌝ }
+    ensures { λ r. ⌜ (listed r ≡ valuesOf (axis degree controls (now (knots .entry))) low high) × (r .count ≤ 193) ⌝ }
 {
-    let low = knots[degree];
-    let high = knots[controls];
-    let step = stride(count_breaks(knots, low, high));
-    let breaks = closed(thin(knots, low, high, step - 1), high);
-    in_eighths(breaks, high)
+    let start = start_of(knots, knots[degree], low);
+    let end = end_of(knots[controls], high);
+    let step = stride(count_inner(knots, low, high) + 2);
+    let breaks = add_break(thin(knots, low, high, start, step - 1), end);
+    in_eighths(breaks, end)
 }

@@ -10,7 +10,7 @@ use Rattle.vector3.specs.declared.Vector3.{Vector3}
 use Rattle.price.specs.Price.{Priced, refused, answered, price, after, mapped, _then_, spent, spend}
 use Rattle.price.specs.PriceLaws.{after-price, after-none, after-after, then-least, was-paid, was-spent}
 use Rattle.domain.specs.declared.Domain.{Domain}
-use Rattle.surface.specs.Surface.{Surface, axisU, axisV, evaluateBy, domainOf}
+use Rattle.surface.specs.Surface.{Surface, evaluateBy, windowOf}
 use Rattle.newton.specs.declared.End.{End}
 use Rattle.newton.specs.declared.Finished.{Finished}
 use Rattle.newton.specs.declared.Outcome.{Outcome}
@@ -20,7 +20,8 @@ use Rattle.newton.specs.OutcomeLaws.{spent-run, refused-run, ended-run}
 use Rattle.grid.specs.declared.Values.{Values}
 use Rattle.shortlist.specs.declared.Start.{Start}
 use Rattle.seeds.specs.declared.Walked.{Walked}
-use Rattle.grid.specs.Axis.{valuesOf, listed}
+use Rattle.grid.specs.Axis.{listed}
+use Rattle.window.specs.Values.{valuesU, valuesV}
 use Rattle.shortlist.specs.FirstSix.{startsOf}
 use Rattle.seeds.specs.Grid.{survey}
 use Rattle.shortlist.specs.Insert.{startsIn}
@@ -38,14 +39,14 @@ use Rattle.inversion.proofs.SearchSteps.{chosen-told, refusal-told, too
 -- ---- the grid, and the search after it
 
 abbrev startsOn : Surface → Float → Vector3 → Priced (List Start)
-startsOn s m mark = mapped startsOf (survey mark (evaluateBy s m) (valuesOf (axisU s)) (valuesOf (axisV s)))
+startsOn s m mark = mapped startsOf (survey mark (evaluateBy s m) (valuesU s) (valuesV s))
 
 -- a walk of the grid with what k units leave of a budget
 pub record Walks (s : Surface) (m : Float) (mark : Vector3) (k budget : ℕ) (w : Walked) : Type 0 where
   pub within : k ≤ budget
   pub told : walkedOf w ≡ spend (budget - k) (startsOn s m mark)
 
-pub walks : (s : Surface) (m : Float) (mark : Vector3) (k budget : ℕ) (w : Walked) (us vs : Values) → listed us ≡ valuesOf (axisU s) → listed vs ≡ valuesOf (axisV s) → k ≤ budget
+pub walks : (s : Surface) (m : Float) (mark : Vector3) (k budget : ℕ) (w : Walked) (us vs : Values) → listed us ≡ valuesU s → listed vs ≡ valuesV s → k ≤ budget
     → walkedOf w ≡ spend (budget - k) (mapped startsOf (survey mark (evaluateBy s m) (listed us) (listed vs))) → Walks s m mark k budget w
 walks s m mark k budget w us vs p q h e = record { within = h; told = rw (p, q) at e }
 
@@ -68,7 +69,7 @@ module _ {s : Surface} {m : Float} {mark : Vector3} {k budget : ℕ} {w : Walked
     abbrev steps : Priced Choice
     steps = after k (exploredOn s m mark best again)
 
-    pub explore-found : (d : Domain) → d ≡ domainOf s → w .refusal ≡ 0
+    pub explore-found : (d : Domain) → d ≡ windowOf s → w .refusal ≡ 0
         → {r : Answer} → r ≡ answerOf (spend budget (after (k + w .taken) (searched d mark (evaluateBy s m) best again 1 (startsIn (w .starts))))) → r ≡ answerOf (spend budget steps)
     unfolding explored _then_
     explore-found d g z f = f ∙ rw (g, all-seen z .0) (ap (λ (p : Priced Choice). answerOf (spend budget p)) (sym (after-after k (w .taken) _)))
@@ -81,7 +82,7 @@ module _ {s : Surface} {m : Float} {mark : Vector3} {k budget : ℕ} {w : Walked
     unfolding explored walkedOf
     explore-spent f g =
         let o : spent ≡ walkedOf w = sym (simp (ne-eqb (w .refusal) 0 f, ne-eqb (w .refusal) 9 g)) in
-        let least = then-least (startsOn s m mark) (searched (domainOf s) mark (evaluateBy s m) best again 1) in
+        let least = then-least (startsOn s m mark) (searched (windowOf s) mark (evaluateBy s m) best again 1) in
         too-dear budget steps (omega (arith, was-spent (budget - k) (startsOn s m mark) (o ∙ h .told), least, after-price k (exploredOn s m mark best again)))
 
 -- ---- the hint
@@ -94,9 +95,9 @@ module _ (s : Surface) (m : Float) (mark : Vector3) (hint : Hint) (tolerance : F
   unfolding inversionBy plainSteps
   unhinted f e = e ∙ rw (f, after-none (exploredOn s m mark Nothing 0))
 
-  module _ (d : Domain) (g : d ≡ domainOf s) (u v : Float) (f : hint ≡ Hint.At u v) {o : Outcome} (e : o ≡ outcomeOf (spend budget (finished d mark (evaluateBy s m) u v))) where
+  module _ (d : Domain) (g : d ≡ windowOf s) (u v : Float) (f : hint ≡ Hint.At u v) {o : Outcome} (e : o ≡ outcomeOf (spend budget (finished d mark (evaluateBy s m) u v))) where
     abbrev afterRun : Priced End → Priced Choice
-    afterRun r = hinted (domainOf s) mark (evaluateBy s m) (valuesOf (axisU s)) (valuesOf (axisV s)) tolerance r
+    afterRun r = hinted (windowOf s) mark (evaluateBy s m) (valuesU s) (valuesV s) tolerance r
 
     by-run : inversionBy s m mark hint tolerance ≡ afterRun (run d mark (evaluateBy s m) u v)
     unfolding inversionBy plainSteps
@@ -108,7 +109,7 @@ module _ (s : Surface) (m : Float) (mark : Vector3) (hint : Hint) (tolerance : F
     hinted-least (refused k) = omega arith
     hinted-least (answered a k) = by (within a tolerance)
       where
-        by : (t : Bool) → k ≤ price (unlessClose (domainOf s) mark (evaluateBy s m) (valuesOf (axisU s)) (valuesOf (axisV s)) t a k)
+        by : (t : Bool) → k ≤ price (unlessClose (windowOf s) mark (evaluateBy s m) (valuesU s) (valuesV s) t a k)
         by true = omega arith
         by false = omega (arith, after-price k (exploredOn s m mark (At (ofHint a)) k))
 
@@ -125,7 +126,7 @@ module _ (s : Surface) (m : Float) (mark : Vector3) (hint : Hint) (tolerance : F
       pub hint-fits : k ≤ budget
       hint-fits = ended-run d mark (evaluateBy s m) u v budget e a k ended .1
 
-      weighed : inversionBy s m mark hint tolerance ≡ unlessClose (domainOf s) mark (evaluateBy s m) (valuesOf (axisU s)) (valuesOf (axisV s)) (within (a .end) tolerance) (a .end) k
+      weighed : inversionBy s m mark hint tolerance ≡ unlessClose (windowOf s) mark (evaluateBy s m) (valuesU s) (valuesV s) (within (a .end) tolerance) (a .end) k
       unfolding hinted
       weighed = by-run ∙ rw (ended-run d mark (evaluateBy s m) u v budget e a k ended .0)
 

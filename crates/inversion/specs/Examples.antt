@@ -8,6 +8,7 @@ use Rattle.float64.specs.Operators.{0·, ½·, 1·}
 use Rattle.vector3.specs.declared.Vector3.{Vector3}
 use Rattle.price.specs.Price.{refused}
 use Rattle.domain.specs.declared.Counts.{Counts}
+use Rattle.domain.specs.declared.Window.the-variants.{Whole}
 use Rattle.surface.specs.Surface.{Surface, surface}
 use Rattle.inversion.specs.declared.Hint.the-variants.{At}
 use Rattle.inversion.specs.Inversion.{inversionBy}
@@ -31,7 +32,7 @@ linear periodic = record { degree = 1; controls = 2; periodic = periodic }
 -- the Square, but for the flag of u, the upper end of v, and x of the last two controls
 bilinear : Bool → Float → Float → Float → Surface
 bilinear periodic high a b =
-    surface (record { u = linear periodic; v = linear false }) (0· ∷ 0· ∷ 1· ∷ 1· ∷ []) (0· ∷ 0· ∷ high ∷ high ∷ [])
+    surface (record { u = linear periodic; v = linear false; window = Whole }) (0· ∷ 0· ∷ 1· ∷ 1· ∷ []) (0· ∷ 0· ∷ high ∷ high ∷ [])
     (0· ∷ 0· ∷ 0· ∷ 0· ∷ 1· ∷ 0· ∷ a ∷ 0· ∷ 0· ∷ b ∷ 1· ∷ 0· ∷ []) (1· ∷ 1· ∷ 1· ∷ 1· ∷ [])
 
 at : Float → Float → Vector3

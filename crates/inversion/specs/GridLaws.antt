@@ -81,6 +81,32 @@ module _ (mark : Vector3) (eval : Float → Float → Evaluated) where
   pub survey-seen : (us vs : List Float) → Sees (All Seen) (survey mark eval us vs)
   survey-seen = survey-sees (All Seen) (λ p s ps h. (s, h)) tt
 
+  -- and each stands at a u value and a v value of the grid
+  module _ (us vs : List Float) where
+    abbrev pub OnGrid : Start → Type 0
+    OnGrid p = List·Memᴰ (p .u) us × List·Memᴰ (p .v) vs
+
+    row-on-grid : (x : Float) → List·Memᴰ x us → (ys : List Float) → ((y : Float) → List·Memᴰ y ys → List·Memᴰ y vs) → (below : Priced (List Start)) → Sees (All OnGrid) below
+        → Sees (All OnGrid) (rowOf mark eval x ys below)
+    unfolding rowOf seen
+    row-on-grid x mx [] some below h = h
+    row-on-grid x mx (y ∷ ys) some below h = by (eval x y) (row-on-grid x mx ys (λ z m. some z (List·Memᴰ·tail m)) below h)
+      where
+        by : (e : Evaluated) → Sees (All OnGrid) (rowOf mark eval x ys below) → Sees (All OnGrid) (seen mark eval (rowOf mark eval x ys below) x y e)
+        by Refused r = tt
+        by (Found j) r =
+            let more : (ps : List Start) → All OnGrid ps → All OnGrid (startAt (fromMark mark j) x y ∷ ps) = λ ps a. ((mx, some y (List·Memᴰ·head refl)), a) in
+            let rest = rowOf mark eval x ys below in
+            after-answers _ 1 _ (mapped-answers _ _ rest (answers-map _ _ (λ ps n. more ps) rest r))
+
+    rows-on-grid : (xs : List Float) → ((x : Float) → List·Memᴰ x xs → List·Memᴰ x us) → Sees (All OnGrid) (survey mark eval xs vs)
+    unfolding survey
+    rows-on-grid [] some = tt
+    rows-on-grid (x ∷ xs) some = row-on-grid x (some x (List·Memᴰ·head refl)) vs (λ y m. m) _ (rows-on-grid xs (λ z m. some z (List·Memᴰ·tail m)))
+
+    pub survey-on-grid : Sees (All OnGrid) (survey mark eval us vs)
+    survey-on-grid = rows-on-grid us (λ x m. m)
+
   -- every pair of a u value with a v value is among the points
   module _ (x y : Float) (j : Jet) where
     abbrev Meets : Priced (List Start) → Type 0

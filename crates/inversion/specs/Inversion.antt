@@ -7,11 +7,11 @@ use Rattle.vector3.specs.declared.Vector3.{Vector3}
 use Rattle.price.specs.Price.{Priced, refused, answered, after, mapped, _then_, Paid, spent, paid}
 use Rattle.patch.specs.declared.Evaluated.{Evaluated}
 use Rattle.domain.specs.declared.Domain.{Domain}
-use Rattle.surface.specs.Surface.{Surface, axisU, axisV, evaluateBy, domainOf}
+use Rattle.surface.specs.Surface.{Surface, evaluateBy, windowOf}
 use Rattle.newton.specs.declared.End.{End}
 use Rattle.newton.specs.Run.{run}
 use Rattle.shortlist.specs.declared.Start.{Start}
-use Rattle.grid.specs.Axis.{valuesOf}
+use Rattle.window.specs.Values.{valuesU, valuesV}
 use Rattle.shortlist.specs.FirstSix.{startsOf}
 use Rattle.seeds.specs.Grid.{survey}
 use Rattle.inversion.specs.declared.Hint.{Hint}
@@ -86,10 +86,10 @@ module _ (d : Domain) (mark : Vector3) (eval : Float → Float → Evaluated) wh
 -- ---- on a surface whose largest weight is m
 
 abbrev pub exploredOn : Surface → Float → Vector3 → Best → ℕ → Priced Choice
-exploredOn s m mark best k = explored (domainOf s) mark (evaluateBy s m) (valuesOf (axisU s)) (valuesOf (axisV s)) best k
+exploredOn s m mark best k = explored (windowOf s) mark (evaluateBy s m) (valuesU s) (valuesV s) best k
 
 unfoldable pub inversionBy : Surface → Float → Vector3 → Hint → Float → Priced Choice
-inversionBy s m mark hint tolerance = plainSteps (domainOf s) mark (evaluateBy s m) (valuesOf (axisU s)) (valuesOf (axisV s)) hint tolerance
+inversionBy s m mark hint tolerance = plainSteps (windowOf s) mark (evaluateBy s m) (valuesU s) (valuesV s) hint tolerance
 
 -- ---- the nearest as it is kept while the starts are run from: the earlier of two as far
 

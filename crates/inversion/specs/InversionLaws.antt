@@ -30,7 +30,7 @@ use Rattle.inversion.specs.declared.Best.{Best}
 use Rattle.inversion.specs.declared.Best.the-variants.{Nothing, At}
 use Rattle.inversion.specs.Inversion.{ofHint, numbered, within, nearer, nearestOf, led, choose, runs, searched, explored, unlessClose, hinted, plainSteps}
 use Rattle.inversion.specs.Nearest.{All, all-at, all-map, Number, Nearest, here, there, nearest-member, nearest-least, First, nearest-first, nearest-front, nearest-second, nearest-only}
-use Rattle.inversion.specs.GridLaws.{Counted, Seen, away, Fronted, survey-counted, survey-seen, survey-meets, survey-found, starts-some, starts-fronted}
+use Rattle.inversion.specs.GridLaws.{Counted, Seen, OnGrid, away, Fronted, survey-counted, survey-seen, survey-on-grid, survey-meets, survey-found, starts-some, starts-fronted}
 
 -- ---- the nearest of the ends
 
@@ -287,19 +287,19 @@ module _ (d : Domain) (mark : Vector3) (eval : Float → Float → Evaluated) wh
         pub first-six : NearestSix (c .points) (startsOf (c .points))
         first-six = starts-nearest-six (c .points) (numbers-of (c .points) (λ p m. all-at (Number away) known m))
 
-      -- where an evaluation succeeds, so does that of the clamped pair, with the same result
-      module _ (clamped : (u v : Float) (j : Jet) → eval u v ≡ Found j → eval (clampInto (d .u) u) (clampInto (d .v) v) ≡ Found j) where
-        start-descends : (s : Start) → Seen mark eval s → nudges d mark eval (s .u) (s .v) ≡ false → Ends (λ e. le (e .at .distance) (s .distance) ≡ true) (run d mark eval (s .u) (s .v))
-        start-descends s h k = rw (h .distance) (run-descends d mark eval number (s .u) (s .v) (h .jet) (clamped (s .u) (s .v) (h .jet) (h .found)) k)
+      -- where an evaluation at a grid point succeeds, so does that of the clamped pair, with the same result
+      module _ (clamped : (u v : Float) (j : Jet) → eval u v ≡ Found j → List·Memᴰ u us → List·Memᴰ v vs → eval (clampInto (d .u) u) (clampInto (d .v) v) ≡ Found j) where
+        start-descends : (s : Start) → Seen mark eval s → OnGrid mark eval us vs s → nudges d mark eval (s .u) (s .v) ≡ false → Ends (λ e. le (e .at .distance) (s .distance) ≡ true) (run d mark eval (s .u) (s .v))
+        start-descends s h g k = rw (h .distance) (run-descends d mark eval number (s .u) (s .v) (h .jet) (clamped (s .u) (s .v) (h .jet) (h .found) (g .0) (g .1)) k)
 
         -- the end of the run from the nearest point is no further than that point
-        nearest-descends : (ps ss : List Start) (es : List End) (m : ℕ) → All (Seen mark eval) ps → Fronted ps ss → Ran ss es m
+        nearest-descends : (ps ss : List Start) (es : List End) (m : ℕ) → All (Seen mark eval) ps → All (OnGrid mark eval us vs) ps → Fronted ps ss → Ran ss es m
             → (s : Start) → Nearest away s ps → nudges d mark eval (s .u) (s .v) ≡ false
             → (a : End) × List·Memᴰ a es × (le (a .at .distance) (s .distance) ≡ true)
-        nearest-descends ps [] es m seen f r s h k = absurd (List·Memᴰ·not-nil (rw f at (nearest-member away h)))
-        nearest-descends ps (q ∷ qs) es m seen f (next {e = e} p r) s h k =
+        nearest-descends ps [] es m seen grid f r s h k = absurd (List·Memᴰ·not-nil (rw f at (nearest-member away h)))
+        nearest-descends ps (q ∷ qs) es m seen grid f (next {e = e} p r) s h k =
             let same = nearest-only away f h in
-            let l = start-descends q (all-at (Seen mark eval) seen (nearest-member away f)) (rw same k) in
+            let l = start-descends q (all-at (Seen mark eval) seen (nearest-member away f)) (all-at (OnGrid mark eval us vs) grid (nearest-member away f)) (rw same k) in
             (e, List·Memᴰ·head refl, rw same at (rw p at l))
 
         -- an end among those of the starts stands, with its number, among the candidates
@@ -320,7 +320,7 @@ module _ (d : Domain) (mark : Vector3) (eval : Float → Float → Evaluated) wh
         module _ {tolerance : Float} {hint : Hint} {e : Choice} {n : ℕ} (c : Chosen tolerance hint e n) where
           from-nearest : (s : Start) → Nearest away s (c .points) → nudges d mark eval (s .u) (s .v) ≡ false → (u v : Float) → List·Memᴰ u us → List·Memᴰ v vs → AsFar (e .end) u v
           from-nearest s h k u v mu mv =
-              let f = nearest-descends (c .points) (startsOf (c .points)) (c .others) (c .made) (seen c) (starts-fronted (c .points) (known c)) (c .ran) s h k in
+              let f = nearest-descends (c .points) (startsOf (c .points)) (c .others) (c .made) (seen c) (rw (c .whole) at (survey-on-grid mark eval us vs)) (starts-fronted (c .points) (known c)) (c .ran) s h k in
               let a = f .0 in
               let least = nearest-least away (all-at (Number away) (known c) (nearest-member away h)) h in
               let g = survey-found mark eval us vs (c .points) (length us * length vs) (c .whole) u v mu mv in

@@ -7,13 +7,13 @@ use Rattle.price.specs.Price.{Priced, refused, answered}
 use Rattle.price.specs.Evaluations.{Pair, until}
 use Rattle.patch.specs.declared.Evaluated.{Evaluated}
 use Rattle.domain.specs.declared.Domain.{Domain}
-use Rattle.surface.specs.Surface.{Surface, axisU, axisV, evaluateBy, domainOf}
+use Rattle.surface.specs.Surface.{Surface, evaluateBy, windowOf}
 use Rattle.newton.specs.declared.End.{End}
 use Rattle.newton.specs.Run.{run}
 use Rattle.newton.specs.Visits.{visits}
 use Rattle.shortlist.specs.declared.Start.{Start}
 use Rattle.shortlist.specs.FirstSix.{startsOf}
-use Rattle.grid.specs.Axis.{valuesOf}
+use Rattle.window.specs.Values.{valuesU, valuesV}
 use Rattle.seeds.specs.Visits.{gridOf, pointsOf}
 use Rattle.inversion.specs.declared.Hint.{Hint}
 use Rattle.inversion.specs.declared.Hint.the-variants.{Nothing, At}
@@ -50,4 +50,4 @@ module _ (d : Domain) (mark : Vector3) (eval : Float → Float → Evaluated) wh
 
 -- on a surface whose largest weight is m
 unfoldable pub evaluationsBy : Surface → Float → Vector3 → Hint → Float → List Pair
-evaluationsBy s m mark hint tolerance = evaluations (domainOf s) mark (evaluateBy s m) (valuesOf (axisU s)) (valuesOf (axisV s)) hint tolerance
+evaluationsBy s m mark hint tolerance = evaluations (windowOf s) mark (evaluateBy s m) (valuesU s) (valuesV s) hint tolerance

@@ -31,8 +31,9 @@ pub(crate) fn explore(
     let best = lead.best;
     let u = accepted.shape.u;
     let v = accepted.shape.v;
-    let us = axis_values(ku, u.degree, u.controls);
-    let vs = axis_values(kv, v.degree, v.controls);
+    let window = accepted.window;
+    let us = axis_values(ku, u.degree, u.controls, window.u.low, window.u.high);
+    let vs = axis_values(kv, v.degree, v.controls, window.v.low, window.v.high);
     let left = budget - lead.taken;
     let walked = walk(accepted, ku, kv, controls, weights, us, vs, mark, left);
     if walked.refusal == 0 {

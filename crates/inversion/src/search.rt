@@ -58,7 +58,7 @@ pub(crate) fn search(
     budget: u64,
 ) -> Answer
     requires { ⌜ Accepts (surfaceOf (accepted .shape) ku kv controls weights) accepted × (starts .count ≤ 6) × (lead .taken ≤ budget) ⌝ }
-    ensures { λ r. ⌜ r ≡ answerOf (spend budget (after (lead .taken) (searched (accepted .domain) mark (evaluateBy (atEntry (accepted .shape) ku kv controls weights) (accepted .largest)) (lead .best) (lead .again) 1 (startsIn starts)))) ⌝ }
+    ensures { λ r. ⌜ r ≡ answerOf (spend budget (after (lead .taken) (searched (accepted .window) mark (evaluateBy (atEntry (accepted .shape) ku kv controls weights) (accepted .largest)) (lead .best) (lead .again) 1 (startsIn starts)))) ⌝ }
 {
     let at = starts.at;
     let mut best = lead.best;

@@ -2,9 +2,12 @@
 use mathlib.Core.Path.{_≡_, refl, _∙_}
 use mathlib.Core.Bool.{Bool, true, false}
 use Prim.Native.Nat.{ℕ, zero, suc}
+use native.Mathlib.Omega.{arith}
 use lib.Ieee.{Float}
 use Rattle.surface.specs.declared.Checked.{Checked}
 use Rattle.surface.specs.declared.Checked.the-variants as Check
+use Rattle.surface.specs.Surface.{Surface, refusalOfSurface, checked}
+use Rattle.surface.specs.NumberLaws.{check-scale}
 use Rattle.inverter.specs.declared.Components.{Components}
 use Rattle.inverter.specs.declared.Components.the-variants.{Refusal}
 use Rattle.inverter.specs.Inverter.{onChecked, charged}
@@ -19,6 +22,9 @@ module _ {A : Type 0} (refuse : ℕ → A) (f : Float → A) {c : Checked} where
   pub passed : {m : Float} → c ≡ Check.Scale m → {r : A} → r ≡ f m → r ≡ onChecked refuse c f
   unfolding onChecked
   passed h q = q ∙ rw h
+
+pub unrefused : (s : Surface) → refusalOfSurface s ≡ 0 → {n : ℕ} → checked s ≡ Check.Refusal n → ⊥
+unrefused s ok h = let z : _≡_ {A = ℕ} 0 1 = cc (check-scale s ok) in omega arith
 
 -- ---- a call of one unit
 

@@ -8,8 +8,11 @@ use lib.Ieee.{Float}
 use borrow.Author.Tests.{leb-true, leb-false}
 use Rattle.vector3.specs.declared.Vector3.{Vector3}
 use Rattle.vector3.specs.Laws.{Finite, vector-finite}
-use Rattle.surface.specs.Surface.{Surface, axisU, axisV, scaleOf, refusalOfSurface, evaluateBy, domainOf}
-use Rattle.grid.specs.Axis.{valuesOf}
+use Rattle.surface.specs.Surface.{Surface, axisU, axisV, scaleOf, refusalOfSurface, evaluateBy, windowOf}
+use Rattle.surface.specs.SurfaceLaws.{accepted-surface}
+use Rattle.surface.specs.Doubles.{Doubled}
+use Rattle.window.specs.Values.{valuesU, valuesV}
+use Rattle.window.specs.SurfaceLaws.{window-within-u, window-within-v}
 use Rattle.shortlist.specs.FirstSix.{startsOf}
 use Rattle.shortlist.specs.SortLaws.{NearestSix}
 use Rattle.seeds.specs.Visits.{gridOf, pointsOf}
@@ -29,7 +32,7 @@ use Rattle.inversion.specs.InversionLaws.{far, candidates, taken, among, hint-t
 use Rattle.inversion.specs.GridLaws.{starts-six}
 use Rattle.inversion.specs.OriginLaws.{origin-most}
 use Rattle.inversion.specs.SurfaceLaws as Surfaces
-use Rattle.inversion.specs.SurfaceLaws.{InDomain, Paired, Chosen, NoNearer, From, in-domain, whole-grid, first-six, nearest-end, grid-no-nearer, paired}
+use Rattle.inversion.specs.SurfaceLaws.{InWindow, InDomain, Paired, Chosen, NoNearer, From, in-window, within-domain, whole-grid, first-six, nearest-end, grid-no-nearer, paired}
 use Rattle.chart.specs.declared.Period.{Period}
 use Rattle.chart.specs.declared.Terms.{Terms}
 use Rattle.chart.specs.declared.Placing.the-variants.{Pair}
@@ -50,16 +53,16 @@ module _ (s : Surface) (ok : refusalOfSurface s ≡ 0) (mark : Vector3) (terms :
 
   -- a run on this surface
   abbrev pub runFrom : Float → Float → Priced End
-  runFrom u v = run (domainOf s) mark (evaluateBy s (scaleOf s)) u v
+  runFrom u v = run (windowOf s) mark (evaluateBy s (scaleOf s)) u v
 
   -- "Otherwise it is the nearest of the ends of the hint's run, if any, and of the runs from the first six of the whole grid sorted by distance, equal distances dropped; the hint wins ties, then the earlier."
   pub record Otherwise (c : Choice) (n : ℕ) : Type 0 where
     pub chosen : Chosen s (scaleOf s) mark (terms .tolerance) (terms .hint) c n
-    pub grid : PointsOf mark (evaluateBy s (scaleOf s)) (gridOf (valuesOf (axisU s)) (valuesOf (axisV s))) (chosen .points)
+    pub grid : PointsOf mark (evaluateBy s (scaleOf s)) (gridOf (valuesU s) (valuesV s)) (chosen .points)
     pub starts : NearestSix (chosen .points) (startsOf (chosen .points))
-    pub nearest : First far c (candidates (domainOf s) mark (evaluateBy s (scaleOf s)) (valuesOf (axisU s)) (valuesOf (axisV s)) chosen)
-    -- "In the second case every grid point is at least as far as the pair, unless the run from the nearest, the first in the grid among equals, was nudged."
-    pub no-nearer : NoNearer s (scaleOf s) mark (chosen .points) (c .end)
+    pub nearest : First far c (candidates (windowOf s) mark (evaluateBy s (scaleOf s)) (valuesU s) (valuesV s) chosen)
+    -- "In the second case every grid point is at least as far as the pair, unless the run from the nearest, the first in the grid among equals, was nudged." The surface's numbers are doubles, as the contract of `invert` says.
+    pub no-nearer : Doubled s → NoNearer s (scaleOf s) mark (chosen .points) (c .end)
 
   pub data Source (c : Choice) (n : ℕ) : Type 0 where
     -- "the hint run's end where that lies within tolerance"
@@ -77,15 +80,15 @@ module _ (s : Surface) (ok : refusalOfSurface s ≡ 0) (mark : Vector3) (terms :
     pub ending : c .end .ending ≡ before .end .ending
     pub origin : c .origin ≡ before .origin
     -- it was evaluated, and its distance is the one compared
-    pub reached : Reached (domainOf s) mark (evaluateBy s (scaleOf s)) (before .end .at)
+    pub reached : Reached (windowOf s) mark (evaluateBy s (scaleOf s)) (before .end .at)
     pub source : Source before n
     -- the run that it came from, from the hint or from one of six starts, and what the name of that run's end tells
     pub from : From s (scaleOf s) mark (terms .hint) before
     pub origin-most : c .origin ≤ 6
-    pub told : Meant (domainOf s) mark (evaluateBy s (scaleOf s)) (from .u) (from .v) (before .end .ending) (before .end .at) (from .made)
-    -- "Before that shift, axes without the periodic flag stay in their knot domain."
-    pub inside-u : InDomain (s .shape .u .periodic) (axisU s) (before .end .at .u)
-    pub inside-v : InDomain (s .shape .v .periodic) (axisV s) (before .end .at .v)
+    pub told : Meant (windowOf s) mark (evaluateBy s (scaleOf s)) (from .u) (from .v) (before .end .ending) (before .end .at) (from .made)
+    -- before that shift, axes without the periodic flag stay in the window
+    pub inside-u : InWindow (s .shape .u .periodic) (windowOf s .u) (before .end .at .u)
+    pub inside-v : InWindow (s .shape .v .periodic) (windowOf s .v) (before .end .at .v)
 
   source-of : (hint : Hint) → terms .hint ≡ hint → {c : Choice} {n : ℕ} → Paired s (scaleOf s) mark (terms .tolerance) hint c n → Source c n
   source-of hint h (taken p t) = hint-end h p refl t
@@ -106,7 +109,7 @@ module _ (s : Surface) (ok : refusalOfSurface s ≡ 0) (mark : Vector3) (terms :
       let same : k ≡ n = cc in
       let turn : c ≡ turned terms a = cc in
       let from = rw w at (Surfaces.chosen-from s (scaleOf s) ok mark finite (terms .hint) (terms .tolerance)) in
-      let d = rw w at (in-domain s (scaleOf s) ok mark (terms .hint) (terms .tolerance)) in
+      let d = rw w at (in-window s (scaleOf s) ok mark (terms .hint) (terms .tolerance)) in
       record {
         before = a;
         steps = rw (← same) w;
@@ -114,11 +117,11 @@ module _ (s : Surface) (ok : refusalOfSurface s ≡ 0) (mark : Vector3) (terms :
         distance = rw turn (same-distance (terms .hint) (terms .u) (terms .v) (a .end .at));
         ending = rw turn;
         origin = rw turn;
-        reached = rw w at (pair-held (domainOf s) mark (evaluateBy s (scaleOf s)) (valuesOf (axisU s)) (valuesOf (axisV s)) (terms .hint) (terms .tolerance));
+        reached = rw w at (pair-held (windowOf s) mark (evaluateBy s (scaleOf s)) (valuesU s) (valuesV s) (terms .hint) (terms .tolerance));
         source = rw (← same) (source-of (terms .hint) refl (rw w at (paired s (scaleOf s) ok mark (terms .hint) (terms .tolerance))));
         from = from;
-        origin-most = rw turn (origin-most (domainOf s) mark (evaluateBy s (scaleOf s)) (from .origin) (starts-six (pointsOf mark (evaluateBy s (scaleOf s)) (gridOf (valuesOf (axisU s)) (valuesOf (axisV s))))));
-        told = end-means (domainOf s) mark (evaluateBy s (scaleOf s)) (from .u) (from .v) (a .end) (from .made) (from .ran);
+        origin-most = rw turn (origin-most (windowOf s) mark (evaluateBy s (scaleOf s)) (from .origin) (starts-six (pointsOf mark (evaluateBy s (scaleOf s)) (gridOf (valuesU s) (valuesV s)))));
+        told = end-means (windowOf s) mark (evaluateBy s (scaleOf s)) (from .u) (from .v) (a .end) (from .made) (from .ran);
         inside-u = d .0;
         inside-v = d .1;
       }
@@ -131,12 +134,18 @@ module _ (s : Surface) (ok : refusalOfSurface s ≡ 0) (mark : Vector3) (terms :
       by true l = by-steps (stepsOf s mark terms) refl c n (rw (answer-enough terms s ok mark sound budget (leb-true _ _ l)) at h)
       by false l = absurd (let g = rw (answer-short terms s ok mark sound budget (leb-false _ _ l)) at h in let z : _≡_ {A = ℕ} 0 1 = cc in omega arith)
 
+  -- "Before that shift, axes without the periodic flag stay in their knot domain.", which the window lies in
+  pub in-domain : {c : Choice} {n : ℕ} (p : Shifted c n) → InDomain (s .shape .u .periodic) (axisU s) (p .before .end .at .u) × InDomain (s .shape .v .periodic) (axisV s) (p .before .end .at .v)
+  in-domain p =
+      let a = accepted-surface s ok in
+      (within-domain (axisU s) (windowOf s .u) _ (window-within-u s a) (p .inside-u), within-domain (axisV s) (windowOf s .v) _ (window-within-v s a) (p .inside-v))
+
   -- and where the hint run's end lies within tolerance, the call answers that end, shifted, for the evaluations of that run
   pub placed-hint : (u v : Float) → terms .hint ≡ At u v → (e : End) (n : ℕ) → runFrom u v ≡ answered e n → within e (terms .tolerance) ≡ true
       → (budget : ℕ) → n ≤ budget → placed s mark terms budget ≡ Pair (turned terms (ofHint e)) n
   unfolding inversionBy
   placed-hint u v h e n r t budget l =
-      let k = hint-taken (domainOf s) mark (evaluateBy s (scaleOf s)) (valuesOf (axisU s)) (valuesOf (axisV s)) u v (terms .tolerance) e n r t in
+      let k = hint-taken (windowOf s) mark (evaluateBy s (scaleOf s)) (valuesU s) (valuesV s) u v (terms .tolerance) e n r t in
       let w : stepsOf s mark terms ≡ answered (ofHint e) n = rw h k in
       rw w at (answer-enough terms s ok mark sound budget (rw w l))
 

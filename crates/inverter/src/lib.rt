@@ -13,6 +13,8 @@ use scaled::Acceptance;
 use scaled::accept;
 use vector3::Vector3;
 ghost use mathlib.Core.Path.{_≡_};
+ghost use Rattle.surface.specs.Surface.{refusalOfSurface};
+ghost use Rattle.surface.specs.Doubles.{Doubled};
 ghost use Rattle.surface.specs.Lent.{atEntry};
 ghost use Rattle.inverter.specs.Inverter.{placed};
 
@@ -34,6 +36,7 @@ pub fn invert(
     budget: u64,
 ) -> Placing
     ensures { λ r. ⌜ r ≡ placed (atEntry shape ku kv controls weights) mark terms budget ⌝ }
+    ensures { λ r. ⌜ (refusalOfSurface (atEntry shape ku kv controls weights) ≡ 0 → Doubled (atEntry shape ku kv controls weights)) ⌝ }
 {
     match accept(shape, ku, kv, controls, weights) {
         Acceptance::Refusal(n) => Placing::Refusal(n, 0),

@@ -15,7 +15,7 @@ use Rattle.job_lines.specs.Lines.{marksLine, refusedLine}
 use Rattle.job_format.specs.declared.Layout.{Layout}
 use Rattle.job_format.specs.declared.Layout.the-variants.{Malformed, WellFormed}
 use Rattle.job_format.specs.Format.{knots, controls, parse}
-use Rattle.job_format.specs.Offsets.{Fits, Laid, count, after, floatsAt, surfaceAt, marksAt, jobAt, told}
+use Rattle.job_format.specs.Offsets.{Fits, Laid, count, sizeOf, after, floatsAt, surfaceAt, marksAt, jobAt, told}
 use Rattle.job_format.specs.OffsetLaws.{floats-length, floats-split}
 use Rattle.job.specs.declared.marks.Queue.{Queue}
 use Rattle.job.specs.Printout.{rowLines, jobLines, printed, printout}
@@ -62,16 +62,16 @@ module _ (bytes : List ℕ) where
         let ws : take (d - c) (drop c numbers) ≡ floatsAt n bytes (9 + 8 * u + 8 * v + 8 * (3 * n)) = part (count shape) numbers e c n (d - c) (9 + 8 * u + 8 * v + 8 * (3 * n)) (omega arith) (omega arith) (omega arith) in
         simp (ku, kv, cs, ws)
 
-    pub job-is : (n a b c d : ℕ) → a ≡ knots (shape .u) → b ≡ a + knots (shape .v) → c ≡ b + 3 * controls shape → d ≡ c + controls shape → (q : Queue) → q ≡ queueAt bytes (9 + 8 * d) n
+    pub job-is : (n a b c d w : ℕ) → a ≡ knots (shape .u) → b ≡ a + knots (shape .v) → c ≡ b + 3 * controls shape → d ≡ c + controls shape → w ≡ sizeOf (shape .window) → (q : Queue) → q ≡ queueAt bytes (9 + 8 * d + w) n
         → marksLine n
         ++ rowLines (rowed (surface shape (take a numbers) (take (b - a) (drop a numbers)) (take (c - b) (drop b numbers)) (take (d - c) (drop c numbers))) (marksOf q bytes) (q .progress .terms) (q .progress .left))
         ≡ jobLines (jobAt shape n bytes)
     unfolding jobLines jobAt
-    job-is n a b c d ha hb hc hd q hq =
-        let w : 9 + 8 * d ≡ after shape = omega arith in
-        rw (surface-is a b c d ha hb hc hd, hq, w, marks-length n (after shape + 18))
+    job-is n a b c d w ha hb hc hd hw q hq =
+        let e : 9 + 8 * d + w ≡ after shape = omega arith in
+        rw (surface-is a b c d ha hb hc hd, hq, e, marks-length n (after shape + 18))
 
--- the queue read after the surface's numbers, of a file that has room for its marks
+-- the queue read after the surface, of a file that has room for its marks
 pub queue-fits : (bytes : List ℕ) (at n size room from : ℕ) (q : Queue) → q ≡ queueAt bytes at n → at + 18 + 26 * n ≤ size → from + 57 * (n + 1) ≤ room → Unshifted (q .progress .terms) × Roomy q size from room
 queue-fits bytes at n size room from q e h k = rw e ((refl, refl), (h, k))
 

@@ -11,6 +11,7 @@ use job_format::TERMS_SIZE;
 use job_format::controls;
 use job_format::knots;
 use job_format::number_at;
+use job_format::size_of;
 use job_lines::put_marks;
 use job_lines::put_refusal;
 use row_step::Progress;
@@ -52,12 +53,14 @@ fn print_numbers(bytes: &[u8], shape: Shape, marks: usize, numbers: &[f64], out:
 {
     let u = shape.u;
     let v = shape.v;
+    let window = shape.window;
     let total = controls(shape);
     let ku_end = knots(u);
     let kv_end = ku_end + knots(v);
     let controls_end = kv_end + 3 * total;
     let weights_end = controls_end + total;
-    let queue = queue_at(bytes, HEADER_SIZE + 8 * weights_end, marks);
+    let surface_end = HEADER_SIZE + 8 * weights_end + size_of(window);
+    let queue = queue_at(bytes, surface_end, marks);
     let from = put_marks(out, 0, marks);
     print_row(
         shape,

@@ -1,22 +1,27 @@
 -- The steps of the loops, and what each test of a file says of it, over plain values. Assumes nothing.
-use mathlib.Core.Path.{_≡_, sym, ap, _∙_}
+use mathlib.Core.Path.{_≡_, refl, sym, ap, _∙_}
 use mathlib.Core.Bool.{Bool, true, false, cond}
 use mathlib.Core.List.{List, [], _∷_, _++_, append-assoc}
 use Prim.Native.Nat.{ℕ, suc, _+_, _-_, _*_, _/_, _%_, _^_, _≤_, _<_}
 use native.Mathlib.Nat.{add-zero, sub-zero, mul-le-mul-left}
 use native.Mathlib.Numerals.{add-one}
 use native.Mathlib.Omega.{arith}
+use lib.Dec.{leb}
 use lib.ListN.{length, drop, getD, set, length-drop, drop-of-length-le}
 use lib.Seq.{drop-cons, set-at}
 use lib.Ieee.{Float, nan}
-use borrow.Author.Tests.{le-leb}
+use borrow.Author.Tests.{le-leb, leb-true, leb-false}
 use Rattle.digits.specs.Text.{ascii}
+use Rattle.domain.specs.declared.Window.{Window}
+use Rattle.domain.specs.declared.Window.the-variants.{Whole}
 use Rattle.domain.specs.declared.Shape.{Shape}
 use Rattle.domain.specs.Flags.{shapeOf}
-use Rattle.job_format.specs.Format.{mostBytes, headerSize, termsSize, markSize, Read, malformed, read, _then_, mark, counts, header, termsRecord, markRecord, markRecords, ended, toTheEnd, afterHeader, parse}
-use Rattle.job_format.specs.Offsets.{Small, floatAt, floatsAt, after, surfaceAt, termsAt, marksAt, jobAt}
+use Rattle.surface.specs.Surface.{Surface}
+use Rattle.job_format.specs.Format.{mostBytes, headerSize, windowSize, termsSize, markSize, Read, malformed, read, _then_, mark, counts, header, withWindow, termsRecord, markRecord, markRecords, ended, toTheEnd, afterSurface, afterHeader, parse}
+use Rattle.job_format.specs.declared.Header.{Header}
+use Rattle.job_format.specs.Offsets.{Small, floatAt, floatsAt, count, sizeOf, after, windowAt, shapeAt, surfaceAt, termsAt, marksAt}
 use Rattle.job_format.specs.OffsetLaws.{floats-length, floats-split, numbers-at, terms-at, point-at}
-use Rattle.job_format.specs.ParseLaws.{short, header-stands, left-over, after-stands}
+use Rattle.job_format.specs.ParseLaws.{short, header-stands, left-over, rest-stands, after-stands}
 use Rattle.job_format.proofs.Pieces.{other-flags}
 
 -- ---- numbers
@@ -85,9 +90,9 @@ pub product : (m n : ℕ) → m < 65536 → n < 65536 → m * n < 2 ^ 32
 product m n h k = let l : m * n ≤ m * 65536 = mul-le-mul-left m (omega arith) in omega arith
 
 module _ {du dv nu nv : ℕ} (hdu : du < 2 ^ 8) (hdv : dv < 2 ^ 8) (hnu : nu < 2 ^ 16) (hnv : nv < 2 ^ 16) where
-  pub shape-small : (f : ℕ) → Small (shapeOf du dv nu nv f)
+  pub shape-small : (f : ℕ) → Small (shapeOf du dv nu nv f Whole) × (shapeOf du dv nu nv f Whole .window ≡ Whole)
   unfolding shapeOf
-  shape-small f = record { degree-u = hdu; degree-v = hdv; controls-u = hnu; controls-v = hnv }
+  shape-small f = (record { degree-u = hdu; degree-v = hdv; controls-u = hnu; controls-v = hnv }, refl)
 
 -- ---- what follows the header
 
@@ -95,41 +100,92 @@ when-none : {A B : Type 0} (p : Read A) (f : A → List ℕ → Read B) → p �
 unfolding _then_
 when-none p f e = simp e
 
-module _ (bytes : List ℕ) (shape : Shape) (at : ℕ) (e : at ≡ after shape) (least : headerSize ≤ length bytes) where
-  pub cut-off : length bytes < at + termsSize → afterHeader shape (drop headerSize bytes) ≡ malformed
-  cut-off h = short bytes (after-stands bytes shape) least (omega arith)
+-- no bytes hold no terms
+nothing-follows : (s : Surface) → afterSurface s [] ≡ malformed
+unfolding afterSurface termsRecord mark ascii _then_
+nothing-follows s = refl
 
-  module _ (long : at + termsSize ≤ length bytes) (t : Bool) (m : MarkRead bytes 84 76 at t) where
-    pub no-terms : t ≡ false → afterHeader shape (drop headerSize bytes) ≡ malformed
-    unfolding afterHeader termsRecord ascii _then_
-    no-terms f = rw (numbers-at bytes shape (omega arith), ← e, m, f)
+module _ (bytes : List ℕ) (least : headerSize ≤ length bytes) where
+  module _ (h : Header) where
+    abbrev shape : Shape
+    shape = shapeAt h bytes
 
-    module _ (holds : t ≡ true) where
-      marks-found : afterHeader shape (drop headerSize bytes)
-          ≡ (toTheEnd (drop (at + termsSize) bytes) then λ ps rest. read (record { surface = surfaceAt shape bytes; terms = termsAt bytes at; marks = ps }) rest)
-      unfolding afterHeader termsRecord ascii _then_
-      marks-found = rw (numbers-at bytes shape (omega arith), ← e, m, holds, terms-at bytes at long)
+    cut : length bytes < after shape → afterHeader h (drop headerSize bytes) ≡ malformed
+    cut few = short bytes (after-stands bytes h) least (omega arith)
 
-      abbrev left : ℕ
-      left = length bytes - (at + termsSize)
+    passed : afterHeader h (drop headerSize bytes) ≡ afterSurface (surfaceAt shape bytes) (drop (after shape) bytes)
+    unfolding afterHeader _then_
+    passed = by (leb (after shape) (length bytes)) refl
+      where
+        by : (t : Bool) → leb (after shape) (length bytes) ≡ t → afterHeader h (drop headerSize bytes) ≡ afterSurface (surfaceAt shape bytes) (drop (after shape) bytes)
+        by true e = simp (numbers-at bytes h (leb-true _ _ e))
+        by false e =
+            let few : length bytes < after shape = leb-false _ _ e in
+            cut few ∙ sym (rw (drop-of-length-le bytes {i = after shape} (omega arith)) (nothing-follows (surfaceAt shape bytes)))
 
-      pub bytes-left : (left % markSize ≡ 0 → ⊥) → afterHeader shape (drop headerSize bytes) ≡ malformed
-      bytes-left z = marks-found ∙ when-none _ _ (left-over bytes (at + termsSize) long z)
+    module _ (whole : h .shape .window ≡ Whole) where
+      -- with another shape
+      passed-as : (s : Shape) → shape ≡ s → afterHeader h (drop headerSize bytes) ≡ afterSurface (surfaceAt s bytes) (drop (after s) bytes)
+      passed-as s e = passed ∙ ap (λ (s : Shape). afterSurface (surfaceAt s bytes) (drop (after s) bytes)) e
 
-      module _ (n : ℕ) (n-is : n ≡ left / markSize) (z : left % markSize ≡ 0) (r : Bool) (p : MarksRead bytes n (at + termsSize) r) where
-        end-found : (b : Bool) → r ≡ b → toTheEnd (drop (at + termsSize) bytes) ≡ cond b (read (marksAt n bytes (at + termsSize)) []) malformed
-        unfolding toTheEnd ended _then_
-        end-found true q =
-            let d : drop (at + termsSize + markSize * n) bytes ≡ [] = drop-of-length-le bytes {i = at + termsSize + markSize * n} (omega arith) in
-            rw (length-drop (at + termsSize) bytes, ← n-is, p, q, d)
-        end-found false q = rw (length-drop (at + termsSize) bytes, ← n-is, p, q)
+      pub windowless : h .windowed ≡ false → afterHeader h (drop headerSize bytes) ≡ afterSurface (surfaceAt (h .shape) bytes) (drop (after (h .shape)) bytes)
+      unfolding windowAt
+      windowless f = passed-as (h .shape) (ap (λ (b : Bool). withWindow (h .shape) (windowAt b bytes (headerSize + 8 * count (h .shape)))) f ∙ ap (withWindow (h .shape)) (sym whole))
 
-        pub no-mark : r ≡ false → afterHeader shape (drop headerSize bytes) ≡ malformed
-        no-mark a = marks-found ∙ when-none _ _ (end-found false a)
+      module _ (at : ℕ) (e : at ≡ after (h .shape)) (t : h .windowed ≡ true) where
+        here : at ≡ headerSize + 8 * count (h .shape)
+        here = omega (arith, ap sizeOf whole)
 
-        pub well-formed : r ≡ true → afterHeader shape (drop headerSize bytes) ≡ read (jobAt shape n bytes) []
-        unfolding jobAt _then_
-        well-formed a = marks-found ∙ rw (end-found true a, ← e)
+        found : shape ≡ withWindow (h .shape) (windowAt true bytes at)
+        found = rw (t, ← here)
+
+        pub window-cut : length bytes < at + windowSize → afterHeader h (drop headerSize bytes) ≡ malformed
+        unfolding windowAt
+        window-cut few = cut (omega (arith, here, ap after found))
+
+        pub windowed-by : (w : Window) → w ≡ windowAt true bytes at → afterHeader h (drop headerSize bytes) ≡ afterSurface (surfaceAt (withWindow (h .shape) w) bytes) (drop (after (withWindow (h .shape) w)) bytes)
+        windowed-by w q = passed-as (withWindow (h .shape) w) (found ∙ ap (withWindow (h .shape)) (sym q))
+
+  module _ (s : Surface) (to at : ℕ) (e : at ≡ to) where
+    pub cut-off : length bytes < at + termsSize → afterSurface s (drop to bytes) ≡ malformed
+    cut-off h = by (leb to (length bytes)) refl
+      where
+        by : (t : Bool) → leb to (length bytes) ≡ t → afterSurface s (drop to bytes) ≡ malformed
+        by true q = short bytes (rest-stands bytes s to) (leb-true _ _ q) (omega arith)
+        by false q =
+            let few : length bytes < to = leb-false _ _ q in
+            rw (drop-of-length-le bytes {i = to} (omega arith)) (nothing-follows s)
+
+    module _ (long : at + termsSize ≤ length bytes) (t : Bool) (m : MarkRead bytes 84 76 at t) where
+      pub no-terms : t ≡ false → afterSurface s (drop to bytes) ≡ malformed
+      unfolding afterSurface termsRecord ascii _then_
+      no-terms f = rw (← e, m, f)
+
+      module _ (holds : t ≡ true) where
+        marks-found : afterSurface s (drop to bytes) ≡ (toTheEnd (drop (at + termsSize) bytes) then λ ps rest. read (record { surface = s; terms = termsAt bytes at; marks = ps }) rest)
+        unfolding afterSurface termsRecord ascii _then_
+        marks-found = rw (← e, m, holds, terms-at bytes at long)
+
+        abbrev left : ℕ
+        left = length bytes - (at + termsSize)
+
+        pub bytes-left : (left % markSize ≡ 0 → ⊥) → afterSurface s (drop to bytes) ≡ malformed
+        bytes-left z = marks-found ∙ when-none _ _ (left-over bytes (at + termsSize) long z)
+
+        module _ (n : ℕ) (n-is : n ≡ left / markSize) (z : left % markSize ≡ 0) (r : Bool) (p : MarksRead bytes n (at + termsSize) r) where
+          end-found : (b : Bool) → r ≡ b → toTheEnd (drop (at + termsSize) bytes) ≡ cond b (read (marksAt n bytes (at + termsSize)) []) malformed
+          unfolding toTheEnd ended _then_
+          end-found true q =
+              let d : drop (at + termsSize + markSize * n) bytes ≡ [] = drop-of-length-le bytes {i = at + termsSize + markSize * n} (omega arith) in
+              rw (length-drop (at + termsSize) bytes, ← n-is, p, q, d)
+          end-found false q = rw (length-drop (at + termsSize) bytes, ← n-is, p, q)
+
+          pub no-mark : r ≡ false → afterSurface s (drop to bytes) ≡ malformed
+          no-mark a = marks-found ∙ when-none _ _ (end-found false a)
+
+          pub well-formed : r ≡ true → afterSurface s (drop to bytes) ≡ read (record { surface = s; terms = termsAt bytes to; marks = marksAt n bytes (to + termsSize) }) []
+          unfolding _then_
+          well-formed a = marks-found ∙ rw (end-found true a, ← e)
 
 -- ---- the file
 
@@ -148,10 +204,10 @@ module _ (bytes : List ℕ) where
       no-surface f = headless (simp (m, f))
 
       module _ (holds : t ≡ true) where
-        pub wrong-flags : 3 < getD bytes 8 0 → parse bytes ≡ malformed
+        pub wrong-flags : 7 < getD bytes 8 0 → parse bytes ≡ malformed
         unfolding header ascii _then_
         wrong-flags h = headless (simp (m, holds, other-flags bytes least h))
 
-        pub past-header : (shape : Shape) → counts (drop 2 bytes) ≡ read shape (drop headerSize bytes) → parse bytes ≡ afterHeader shape (drop headerSize bytes)
+        pub past-header : (h : Header) → counts (drop 2 bytes) ≡ read h (drop headerSize bytes) → parse bytes ≡ afterHeader h (drop headerSize bytes)
         unfolding parse header ascii _then_
-        past-header shape e = simp (le-leb (length bytes) mostBytes few, m, holds, e)
+        past-header h e = simp (le-leb (length bytes) mostBytes few, m, holds, e)

@@ -1,6 +1,6 @@
 -- Each piece, read at its place, is what `Offsets.antt` names there, and ends where the next begins. Assumes nothing.
 use mathlib.Core.Path.{_≡_, refl, ap, _∙_}
-use mathlib.Core.Bool.{true}
+use mathlib.Core.Bool.{Bool, true, false}
 use mathlib.Core.List.{List, _∷_, _++_}
 use Prim.Native.Nat.{ℕ, zero, suc, _+_, _*_, _≤_}
 use native.Mathlib.Nat.{add-zero, zero-add}
@@ -11,9 +11,9 @@ use lib.Seq.{drop-drop, getD-drop}
 use lib.Ieee.{Float}
 use borrow.Author.Tests.{le-leb}
 use Rattle.words.specs.Words.{littleEndian}
-use Rattle.domain.specs.declared.Shape.{Shape}
-use Rattle.job_format.specs.Format.{headerSize, termsSize, markSize, read, _then_, number, float, floats, knots, controls, surfaceNumbers, terms, point}
-use Rattle.job_format.specs.Offsets.{floatAt, floatsAt, after, surfaceAt, termsAt, markAt}
+use Rattle.job_format.specs.Format.{headerSize, windowSize, termsSize, markSize, read, _then_, number, float, floats, knots, controls, window, surfaceNumbers, terms, point}
+use Rattle.job_format.specs.declared.Header.{Header}
+use Rattle.job_format.specs.Offsets.{floatAt, floatsAt, count, sizeOf, windowAt, shapeAt, after, surfaceAt, termsAt, markAt}
 
 module _ (bytes : List ℕ) where
   pub from-front : (k at : ℕ) → littleEndian k (drop at bytes) 0 ≡ littleEndian k bytes at
@@ -40,14 +40,23 @@ module _ (bytes : List ℕ) where
       let e : at + 8 + 8 * n ≡ at + 8 * suc n = omega arith in
       simp (float-at at (omega arith), floats-at n (at + 8) (omega arith), e)
 
-  pub numbers-at : (shape : Shape) → after shape ≤ length bytes → surfaceNumbers shape (drop headerSize bytes) ≡ read (surfaceAt shape bytes) (drop (after shape) bytes)
+  pub window-at : (b : Bool) (at : ℕ) → at + sizeOf (windowAt b bytes at) ≤ length bytes → window b (drop at bytes) ≡ read (windowAt b bytes at) (drop (at + sizeOf (windowAt b bytes at)) bytes)
+  unfolding window windowAt _then_
+  window-at false at h = simp add-zero
+  window-at true at h =
+      let second : at + 8 + 8 ≡ at + 16 = omega arith in
+      let third : at + 16 + 8 ≡ at + 24 = omega arith in
+      let end : at + 24 + 8 ≡ at + windowSize = omega arith in
+      simp (float-at at (omega arith), float-at (at + 8) (omega arith), second, float-at (at + 16) (omega arith), third, float-at (at + 24) (omega arith), end)
+
+  pub numbers-at : (h : Header) → after (shapeAt h bytes) ≤ length bytes → surfaceNumbers h (drop headerSize bytes) ≡ read (surfaceAt (shapeAt h bytes) bytes) (drop (after (shapeAt h bytes)) bytes)
   unfolding surfaceNumbers surfaceAt _then_
-  numbers-at shape h =
-      let u = knots (shape .u) in
-      let v = knots (shape .v) in
-      let n = controls shape in
-      let e : headerSize + 8 * u + 8 * v + 8 * (3 * n) + 8 * n ≡ after shape = omega arith in
-      simp (floats-at u headerSize (omega arith), floats-at v (headerSize + 8 * u) (omega arith), floats-at (3 * n) (headerSize + 8 * u + 8 * v) (omega arith), floats-at n (headerSize + 8 * u + 8 * v + 8 * (3 * n)) (omega arith), e)
+  numbers-at h le =
+      let u = knots (h .shape .u) in
+      let v = knots (h .shape .v) in
+      let n = controls (h .shape) in
+      let e : headerSize + 8 * u + 8 * v + 8 * (3 * n) + 8 * n ≡ headerSize + 8 * count (h .shape) = omega arith in
+      simp (floats-at u headerSize (omega arith), floats-at v (headerSize + 8 * u) (omega arith), floats-at (3 * n) (headerSize + 8 * u + 8 * v) (omega arith), floats-at n (headerSize + 8 * u + 8 * v + 8 * (3 * n)) (omega arith), e, window-at (h .windowed) (headerSize + 8 * count (h .shape)) le)
 
   module _ (at : ℕ) where
     e : at + 2 + 8 ≡ at + 10

@@ -1,13 +1,17 @@
 -- Where the pieces of a well-formed file stand, for contracts of code that reads by index. The format is `parse` of `Format.antt` alone: each piece read at its place is what is named here (`OffsetLaws.antt`), and so is a job that is parsed (`parsed-stands` of `ParseLaws.antt`). Definitions only.
 use mathlib.Core.Path.{_≡_}
+use mathlib.Core.Bool.{Bool, true, false}
 use mathlib.Core.List.{List, [], _∷_}
 use Prim.Native.Nat.{ℕ, zero, suc, _+_, _*_, _≤_, _<_}
 use lib.Ieee.{Float, binary64, ofBits}
 use Rattle.words.specs.Words.{littleEndian}
 use Rattle.vector3.specs.declared.Vector3.{Vector3}
+use Rattle.domain.specs.declared.Window.{Window}
+use Rattle.domain.specs.declared.Window.the-variants.{Whole, Within}
 use Rattle.domain.specs.declared.Shape.{Shape}
 use Rattle.surface.specs.Surface.{Surface, surface}
-use Rattle.job_format.specs.Format.{mostBytes, headerSize, termsSize, markSize, Read, malformed, read, Limits, Job, knots, controls}
+use Rattle.job_format.specs.Format.{mostBytes, headerSize, windowSize, termsSize, markSize, Read, malformed, read, Limits, Job, knots, controls, withWindow}
+use Rattle.job_format.specs.declared.Header.{Header}
 use Rattle.job_format.specs.declared.Layout.{Layout}
 use Rattle.job_format.specs.declared.Layout.the-variants.{Malformed, WellFormed}
 
@@ -18,12 +22,25 @@ unfoldable pub floatsAt : ℕ → List ℕ → ℕ → List Float
 floatsAt zero bytes at = []
 floatsAt (suc n) bytes at = floatAt bytes at ∷ floatsAt n bytes (at + 8)
 
--- how many numbers a surface has, and where they end
+-- how many numbers a surface has before its window's
 abbrev pub count : Shape → ℕ
 count shape = knots (shape .u) + knots (shape .v) + 4 * controls shape
 
+abbrev pub sizeOf : Window → ℕ
+sizeOf Whole = 0
+sizeOf (Within a b c d) = windowSize
+
+-- where a surface ends
 abbrev pub after : Shape → ℕ
-after shape = headerSize + 8 * count shape
+after shape = headerSize + 8 * count shape + sizeOf (shape .window)
+
+unfoldable pub windowAt : Bool → List ℕ → ℕ → Window
+windowAt false bytes at = Whole
+windowAt true bytes at = Within (floatAt bytes at) (floatAt bytes (at + 8)) (floatAt bytes (at + 16)) (floatAt bytes (at + 24))
+
+-- a header's shape with the window that follows the weights
+abbrev pub shapeAt : Header → List ℕ → Shape
+shapeAt h bytes = withWindow (h .shape) (windowAt (h .windowed) bytes (headerSize + 8 * count (h .shape)))
 
 unfoldable pub surfaceAt : Shape → List ℕ → Surface
 surfaceAt shape bytes =

@@ -12,10 +12,13 @@ use borrow.Author.Tests.{leb-true}
 use Rattle.words.specs.Words.{littleEndian}
 use Rattle.digits.specs.Text.{ascii}
 use Rattle.vector3.specs.declared.Vector3.{Vector3}
+use Rattle.domain.specs.declared.Window.the-variants.{Whole}
 use Rattle.domain.specs.declared.Shape.{Shape}
 use Rattle.domain.specs.Flags.{shapeOf}
-use Rattle.job_format.specs.Format.{mostBytes, headerSize, termsSize, markSize, Read, malformed, read, _then_, mark, number, float, floats, flags, counts, header, knots, controls, surfaceNumbers, terms, termsRecord, point, markRecord, markRecords, Job, ended, toTheEnd, afterHeader, parse}
-use Rattle.job_format.specs.Offsets.{floatAt, floatsAt, count, after, surfaceAt, termsAt, markAt, marksAt, jobAt}
+use Rattle.surface.specs.Surface.{Surface}
+use Rattle.job_format.specs.Format.{mostBytes, headerSize, termsSize, markSize, Read, malformed, read, _then_, mark, number, float, floats, flags, counts, header, knots, controls, window, surfaceNumbers, terms, termsRecord, point, markRecord, markRecords, Job, ended, toTheEnd, afterSurface, afterHeader, parse}
+use Rattle.job_format.specs.declared.Header.{Header}
+use Rattle.job_format.specs.Offsets.{floatAt, floatsAt, count, sizeOf, after, windowAt, shapeAt, surfaceAt, termsAt, markAt, marksAt, jobAt}
 use Rattle.job_format.specs.OffsetLaws.{from-front}
 
 never : {A : Type 0} (a : A) (rest : List ℕ) → malformed ≡ read a rest → ⊥
@@ -98,26 +101,37 @@ module _ (bytes : List ℕ) where
 
   flags-stand : (at : ℕ) → Stands at 1 flags (littleEndian 1 bytes at)
   unfolding flags
-  flags-stand at = stands-then _ (number-stands 1 at) (stands-if (leb (littleEndian 1 bytes at) 3) stands-read)
+  flags-stand at = stands-then _ (number-stands 1 at) (stands-if (leb (littleEndian 1 bytes at) 7) stands-read)
 
-  abbrev shapeHere : Shape
-  shapeHere = shapeOf (littleEndian 1 bytes 2) (littleEndian 1 bytes 3) (littleEndian 2 bytes 4) (littleEndian 2 bytes 6) (littleEndian 1 bytes 8)
+  abbrev pub headerHere : Header
+  headerHere = record { shape = shapeOf (littleEndian 1 bytes 2) (littleEndian 1 bytes 3) (littleEndian 2 bytes 4) (littleEndian 2 bytes 6) (littleEndian 1 bytes 8) Whole; windowed = eqb (littleEndian 1 bytes 8 / 4 % 2) 1 }
 
-  pub header-stands : Stands 0 headerSize header shapeHere
+  pub header-stands : Stands 0 headerSize header headerHere
   unfolding header counts ascii
   header-stands =
       stands-then _ (mark-stands (ascii "SF") 0) (stands-then _ (number-stands 1 2) (stands-then _ (number-stands 1 3) (stands-then _ (number-stands 2 4) (stands-then _ (number-stands 2 6) (stands-then _ (flags-stand 8) stands-read)))))
 
   -- ---- what follows it
 
-  surface-stands : (shape : Shape) → Stands headerSize (8 * count shape) (surfaceNumbers shape) (surfaceAt shape bytes)
+  window-stands : (b : Bool) (at : ℕ) → Stands at (sizeOf (windowAt b bytes at)) (window b) (windowAt b bytes at)
+  unfolding window windowAt
+  window-stands false at = stands-read
+  window-stands true at =
+      let second : at + 8 + 8 ≡ at + 16 = omega arith in
+      let third : at + 8 + 8 + 8 ≡ at + 24 = omega arith in
+      rw (← third, ← second) (stands-then _ (float-stands at) (stands-then _ (float-stands (at + 8)) (stands-then _ (float-stands (at + 8 + 8)) (stands-then _ (float-stands (at + 8 + 8 + 8)) stands-read))))
+
+  surface-stands : (h : Header) → Stands headerSize (8 * count (h .shape) + sizeOf (shapeAt h bytes .window)) (surfaceNumbers h) (surfaceAt (shapeAt h bytes) bytes)
   unfolding surfaceNumbers surfaceAt
-  surface-stands shape =
-      let u = knots (shape .u) in
-      let v = knots (shape .v) in
-      let n = controls shape in
+  surface-stands h =
+      let u = knots (h .shape .u) in
+      let v = knots (h .shape .v) in
+      let n = controls (h .shape) in
+      let at = headerSize + 8 * count (h .shape) in
+      let e : headerSize + 8 * u + 8 * v + 8 * (3 * n) + 8 * n ≡ at = omega arith in
+      let w : Stands (headerSize + 8 * u + 8 * v + 8 * (3 * n) + 8 * n) (sizeOf (shapeAt h bytes .window)) (window (h .windowed)) (shapeAt h bytes .window) = rw e (window-stands (h .windowed) at) in
       stands-as
-      (stands-then _ (floats-stand u headerSize) (stands-then _ (floats-stand v (headerSize + 8 * u)) (stands-then _ (floats-stand (3 * n) (headerSize + 8 * u + 8 * v)) (stands-then _ (floats-stand n (headerSize + 8 * u + 8 * v + 8 * (3 * n))) stands-read))))
+      (stands-then _ (floats-stand u headerSize) (stands-then _ (floats-stand v (headerSize + 8 * u)) (stands-then _ (floats-stand (3 * n) (headerSize + 8 * u + 8 * v)) (stands-then _ (floats-stand n (headerSize + 8 * u + 8 * v + 8 * (3 * n))) (stands-then _ w stands-read)))))
       (omega arith)
 
   module _ (at : ℕ) where
@@ -163,9 +177,17 @@ module _ (bytes : List ℕ) where
       by (read ps []) q = absurd (z (omega (arith, length-drop at bytes, length-drop (at + markSize * room at) bytes, ap length (marks-stand (room at) at .as-read ps [] q h .1))))
       by (read ps (x ∷ xs)) q = refl
 
-  pub after-stands : (shape : Shape) → Stands headerSize (8 * count shape + (termsSize + markSize * room (after shape + termsSize))) (afterHeader shape) (jobAt shape (room (after shape + termsSize)) bytes)
+  pub rest-stands : (s : Surface) (at : ℕ)
+      → Stands at (termsSize + markSize * room (at + termsSize)) (afterSurface s) (record { surface = s; terms = termsAt bytes at; marks = marksAt (room (at + termsSize)) bytes (at + termsSize) })
+  unfolding afterSurface
+  rest-stands s at = stands-as (stands-then _ (terms-stand at) (stands-then _ (end-stands (at + termsSize)) stands-read)) (omega arith)
+
+  pub after-stands : (h : Header) → let shape = shapeAt h bytes in Stands headerSize (8 * count shape + sizeOf (shape .window) + (termsSize + markSize * room (after shape + termsSize))) (afterHeader h) (jobAt shape (room (after shape + termsSize)) bytes)
   unfolding afterHeader jobAt
-  after-stands shape = stands-as (stands-then _ (surface-stands shape) (stands-then _ (terms-stand (after shape)) (stands-then _ (end-stands (after shape + termsSize)) stands-read))) (omega arith)
+  after-stands h =
+      let shape = shapeAt h bytes in
+      let e : headerSize + (8 * count shape + sizeOf (shape .window)) ≡ after shape = omega arith in
+      stands-then afterSurface (surface-stands h) (rw e (rest-stands (surfaceAt shape bytes) (after shape)))
 
   -- ---- the file
 
@@ -174,14 +196,23 @@ module _ (bytes : List ℕ) where
   marks-length zero at = refl
   marks-length (suc n) at = ap suc (marks-length n (at + markSize))
 
-  pub parsed-stands : (job : Job) (rest : List ℕ) → parse bytes ≡ read job rest → job ≡ jobAt (job .surface .shape) (length (job .marks)) bytes
-  unfolding parse jobAt surfaceAt
-  parsed-stands job rest e = by (leb (length bytes) mostBytes) e
-    where
-      by : (t : Bool) → cond t (header bytes then afterHeader) malformed ≡ read job rest → job ≡ jobAt (job .surface .shape) (length (job .marks)) bytes
-      by true e =
-          let q = stands-then afterHeader header-stands (after-stands shapeHere) .as-read job rest e (omega arith) .0 in
-          let s : job .surface .shape ≡ shapeHere = ap (λ (j : Job). j .surface .shape) q in
-          let n : length (job .marks) ≡ room (after shapeHere + termsSize) = ap (λ (j : Job). length (j .marks)) q ∙ marks-length _ _ in
-          q ∙ ap (λ (shape : Shape). jobAt shape (room (after shapeHere + termsSize)) bytes) (sym s) ∙ ap (λ (k : ℕ). jobAt (job .surface .shape) k bytes) (sym n)
-      by false e = absurd (never job rest e)
+  module _ (job : Job) (rest : List ℕ) where
+    as-parsed : parse bytes ≡ read job rest → let shape = shapeAt headerHere bytes in job ≡ jobAt shape (room (after shape + termsSize)) bytes
+    unfolding parse
+    as-parsed e = by (leb (length bytes) mostBytes) e
+      where
+        by : (t : Bool) → cond t (header bytes then afterHeader) malformed ≡ read job rest → let shape = shapeAt headerHere bytes in job ≡ jobAt shape (room (after shape + termsSize)) bytes
+        by true e = stands-then afterHeader header-stands (after-stands headerHere) .as-read job rest e (omega arith) .0
+        by false e = absurd (never job rest e)
+
+    -- its shape is the header's, with the window at its place
+    pub parsed-shape : parse bytes ≡ read job rest → job .surface .shape ≡ shapeAt headerHere bytes
+    unfolding jobAt surfaceAt
+    parsed-shape e = ap (λ (j : Job). j .surface .shape) (as-parsed e)
+
+    pub parsed-stands : parse bytes ≡ read job rest → job ≡ jobAt (job .surface .shape) (length (job .marks)) bytes
+    unfolding jobAt
+    parsed-stands e =
+        let here = shapeAt headerHere bytes in
+        let n : length (job .marks) ≡ room (after here + termsSize) = ap (λ (j : Job). length (j .marks)) (as-parsed e) ∙ marks-length _ _ in
+        as-parsed e ∙ ap (λ (shape : Shape). jobAt shape (room (after here + termsSize)) bytes) (sym (parsed-shape e)) ∙ ap (λ (k : ℕ). jobAt (job .surface .shape) k bytes) (sym n)

@@ -5,11 +5,30 @@ use mathlib.Core.List.{List, [], _∷_}
 use native.Mathlib.Omega.{arith}
 use lib.ListN.{length, getD}
 use lib.Ieee.{Float, nan}
+use Rattle.domain.specs.declared.Window.the-variants.{Whole, Within}
 use Rattle.inversion.specs.declared.Hint.the-variants.{Nothing, At}
 use Rattle.chart.specs.declared.Period.the-variants.{Free, Every}
-use Rattle.lent.specs.Lent.{hintOf, periodOf}
+use Rattle.lent.specs.Lent.{windowFrom, hintOf, periodOf}
 
 -- ---- what is read
+
+pub no-window : (xs : List Float) → (length xs ≡ 4 → ⊥) → Whole ≡ windowFrom xs
+unfolding windowFrom
+no-window [] h = refl
+no-window (a ∷ []) h = refl
+no-window (a ∷ (b ∷ [])) h = refl
+no-window (a ∷ (b ∷ (c ∷ []))) h = refl
+no-window (a ∷ (b ∷ (c ∷ (d ∷ [])))) h = absurd (h refl)
+no-window (a ∷ (b ∷ (c ∷ (d ∷ (x ∷ xs))))) h = refl
+
+pub a-window : (xs : List Float) → length xs ≡ 4 → Within (getD xs 0 nan) (getD xs 1 nan) (getD xs 2 nan) (getD xs 3 nan) ≡ windowFrom xs
+unfolding windowFrom
+a-window [] h = absurd (omega arith)
+a-window (a ∷ []) h = absurd (omega arith)
+a-window (a ∷ (b ∷ [])) h = absurd (omega arith)
+a-window (a ∷ (b ∷ (c ∷ []))) h = absurd (omega arith)
+a-window (a ∷ (b ∷ (c ∷ (d ∷ [])))) h = refl
+a-window (a ∷ (b ∷ (c ∷ (d ∷ (x ∷ xs))))) h = absurd (omega arith)
 
 pub no-hint : (xs : List Float) → (length xs ≡ 2 → ⊥) → Nothing ≡ hintOf xs
 unfolding hintOf

@@ -1,10 +1,20 @@
 // What a caller of the library lends: how its numbers are read, and whether they fit.
 use chart::Period;
 use chart::Terms;
+use domain::Window;
 use inversion::Hint;
 use job::MOST_PRINTED;
 ghost use mathlib.Core.Path.{_≡_};
-ghost use Rattle.lent.specs.Lent.{hintOf, periodOf, termsOf, soundFlags, soundOptions, roomy, roomyRow, roomyEdges, fitsJet, fitsInversion, fitsRow, fitsDerivative, fitsEdges, fitsJob};
+ghost use Rattle.lent.specs.Lent.{windowFrom, hintOf, periodOf, termsOf, soundFlags, soundWindow, soundSurface, soundOptions, roomy, roomyRow, roomyEdges, fitsJet, fitsInversion, fitsRow, fitsDerivative, fitsEdges, fitsJob};
+
+pub fn window_from(window: &[f64]) -> Window
+    ensures { λ r. ⌜ r ≡ windowFrom (now (window .entry)) ⌝ }
+{
+    if window.len() != 4 {
+        return Window::Whole;
+    }
+    Window::Within(window[0], window[1], window[2], window[3])
+}
 
 fn hint_of(hint: &[f64]) -> Hint
     ensures { λ r. ⌜ r ≡ hintOf (now (hint .entry)) ⌝ }
@@ -41,6 +51,18 @@ fn sound_flags(flags: u64) -> bool
     flags <= 3
 }
 
+fn sound_window(window: usize) -> bool
+    ensures { λ r. ⌜ r ≡ soundWindow window ⌝ }
+{
+    (window == 0) | (window == 4)
+}
+
+fn sound_surface(flags: u64, window: usize) -> bool
+    ensures { λ r. ⌜ r ≡ soundSurface flags window ⌝ }
+{
+    sound_flags(flags) & sound_window(window)
+}
+
 fn sound_options(hint: usize, pu: usize, pv: usize) -> bool
     ensures { λ r. ⌜ r ≡ soundOptions hint pu pv ⌝ }
 {
@@ -65,14 +87,15 @@ fn roomy_edges(collapsed: usize, edges: usize) -> bool
     (4 <= collapsed) & (20 <= edges)
 }
 
-pub fn fits_jet(flags: u64, jet: usize) -> bool
-    ensures { λ r. ⌜ r ≡ fitsJet flags jet ⌝ }
+pub fn fits_jet(flags: u64, window: usize, jet: usize) -> bool
+    ensures { λ r. ⌜ r ≡ fitsJet flags window jet ⌝ }
 {
-    sound_flags(flags) & (9 <= jet)
+    sound_surface(flags, window) & (9 <= jet)
 }
 
 pub fn fits_inversion(
     flags: u64,
+    window: usize,
     hint: usize,
     pu: usize,
     pv: usize,
@@ -80,27 +103,35 @@ pub fn fits_inversion(
     pair: usize,
     ended: usize,
 ) -> bool
-    ensures { λ r. ⌜ r ≡ fitsInversion flags hint pu pv budget pair ended ⌝ }
+    ensures { λ r. ⌜ r ≡ fitsInversion flags window hint pu pv budget pair ended ⌝ }
 {
-    sound_flags(flags) & sound_options(hint, pu, pv) & roomy(budget, pair) & (2 <= ended)
+    sound_surface(flags, window) & sound_options(hint, pu, pv) & roomy(budget, pair) & (2 <= ended)
 }
 
-pub fn fits_row(flags: u64, hint: usize, pu: usize, pv: usize, budget: usize, index: usize) -> bool
-    ensures { λ r. ⌜ r ≡ fitsRow flags hint pu pv budget index ⌝ }
+pub fn fits_row(
+    flags: u64,
+    window: usize,
+    hint: usize,
+    pu: usize,
+    pv: usize,
+    budget: usize,
+    index: usize,
+) -> bool
+    ensures { λ r. ⌜ r ≡ fitsRow flags window hint pu pv budget index ⌝ }
 {
-    sound_flags(flags) & sound_options(hint, pu, pv) & roomy_row(budget, index)
+    sound_surface(flags, window) & sound_options(hint, pu, pv) & roomy_row(budget, index)
 }
 
-pub fn fits_derivative(flags: u64, budget: usize, pair: usize) -> bool
-    ensures { λ r. ⌜ r ≡ fitsDerivative flags budget pair ⌝ }
+pub fn fits_derivative(flags: u64, window: usize, budget: usize, pair: usize) -> bool
+    ensures { λ r. ⌜ r ≡ fitsDerivative flags window budget pair ⌝ }
 {
-    sound_flags(flags) & roomy(budget, pair)
+    sound_surface(flags, window) & roomy(budget, pair)
 }
 
-pub fn fits_edges(flags: u64, collapsed: usize, edges: usize) -> bool
-    ensures { λ r. ⌜ r ≡ fitsEdges flags collapsed edges ⌝ }
+pub fn fits_edges(flags: u64, window: usize, collapsed: usize, edges: usize) -> bool
+    ensures { λ r. ⌜ r ≡ fitsEdges flags window collapsed edges ⌝ }
 {
-    sound_flags(flags) & roomy_edges(collapsed, edges)
+    sound_surface(flags, window) & roomy_edges(collapsed, edges)
 }
 
 pub fn fits_job(printout: usize, written: usize) -> bool

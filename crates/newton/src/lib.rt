@@ -107,7 +107,7 @@ fn rounds(
     budget: u64,
 ) -> Outcome
     requires { ⌜ Accepts (surfaceOf (accepted .shape) ku kv controls weights) accepted × (1 ≤ budget) × (start .roots ≡ 1) ⌝ }
-    ensures { λ r. ⌜ r ≡ Run.outcomeOf (spend budget (Run.rounds (accepted .domain) mark (evaluateBy (atEntry (accepted .shape) ku kv controls weights) (accepted .largest)) 32 1 start)) ⌝ }
+    ensures { λ r. ⌜ r ≡ Run.outcomeOf (spend budget (Run.rounds (accepted .window) mark (evaluateBy (atEntry (accepted .shape) ku kv controls weights) (accepted .largest)) 32 1 start)) ⌝ }
 {
     let mut held = start;
     let mut taken: u64 = 1;
@@ -146,14 +146,14 @@ pub fn run(
     budget: u64,
 ) -> Outcome
     requires { ⌜ Accepts (surfaceOf (accepted .shape) ku kv controls weights) accepted ⌝ }
-    ensures { λ r. ⌜ r ≡ Run.outcomeOf (spend budget (Run.finished (accepted .domain) mark (evaluateBy (atEntry (accepted .shape) ku kv controls weights) (accepted .largest)) u v)) ⌝ }
+    ensures { λ r. ⌜ r ≡ Run.outcomeOf (spend budget (Run.finished (accepted .window) mark (evaluateBy (atEntry (accepted .shape) ku kv controls weights) (accepted .largest)) u v)) ⌝ }
 {
     if budget == 0 {
         return Outcome::Spent;
     }
-    let domain = accepted.domain;
-    let u = clamp_into(domain.u, u);
-    let v = clamp_into(domain.v, v);
+    let window = accepted.window;
+    let u = clamp_into(window.u, u);
+    let v = clamp_into(window.v, v);
     let Evaluated::Found(jet) = scaled_jet(accepted, ku, kv, controls, weights, u, v) else {
         return Outcome::Refused(1);
     };

@@ -151,11 +151,11 @@ pub(crate) fn round(
     budget: u64,
 ) -> Turn
     requires { ⌜ Accepts (surfaceOf (accepted .shape) ku kv controls weights) accepted × (taken ≤ budget) × (held .roots ≤ 32) ⌝ }
-    ensures { λ r. ⌜ r ≡ Run.turnOf budget taken (Run.round (accepted .domain) mark (evaluateBy (atEntry (accepted .shape) ku kv controls weights) (accepted .largest)) taken held) ⌝ }
+    ensures { λ r. ⌜ r ≡ Run.turnOf budget taken (Run.round (accepted .window) mark (evaluateBy (atEntry (accepted .shape) ku kv controls weights) (accepted .largest)) taken held) ⌝ }
 {
-    let domain = accepted.domain;
+    let window = accepted.window;
     let here = held.at;
-    match plan_from(domain, mark, held) {
+    match plan_from(window, mark, held) {
         Plan::Halt(ending) => Turn::Over(ended(here, ending, held.roots, taken)),
         Plan::Probe(nudge, u, v) => {
             if taken == budget {
@@ -171,7 +171,7 @@ pub(crate) fn round(
                 v,
                 distance: measured.distance,
             };
-            match judge(domain, here, nudge, there) {
+            match judge(window, here, nudge, there) {
                 Verdict::Further => Turn::Over(ended(here, Ending::Further, measured.roots, units)),
                 Verdict::Last => Turn::Over(ended(there, Ending::SmallStep, measured.roots, units)),
                 Verdict::Onward => Turn::Onto(Held {

@@ -37,7 +37,7 @@ fn main() {
 fn about() {
     io::write_all(
         STDERR_FILENO,
-        b"place 0.4.0\nusage: place < JOB > PRINTOUT\n",
+        b"place 0.5.0\nusage: place < JOB > PRINTOUT\n",
     );
 }
 

@@ -7,7 +7,9 @@ use native.Mathlib.Omega.{arith}
 use lib.ListN.{length, take, getD}
 use lib.Ieee.{Float}
 use Rattle.vector3.specs.declared.Vector3.{Vector3}
+use Rattle.domain.specs.declared.Window.{Window}
 use Rattle.domain.specs.declared.Shape.{Shape}
+use Rattle.domain.specs.Flags.{shapeOf}
 use Rattle.surface.specs.declared.Evaluation.{Evaluation}
 use Rattle.surface.specs.Surface.{surface, evaluated}
 use Rattle.chart.specs.declared.Terms.{Terms}
@@ -44,6 +46,9 @@ module _ (found : Evaluation) (xs : List Float) {b fit : Bool} (e : b ≡ fit) w
   jet-fit h k l = rw (sym e ∙ h) (rw (sym k) l)
 
 -- ---- on the shape, and by the terms, that were read
+
+pub shape-read : (du dv nu nv flags : ℕ) {s : Shape} {w x : Window} → s ≡ shapeOf du dv nu nv flags w → w ≡ x → s ≡ shapeOf du dv nu nv flags x
+shape-read du dv nu nv flags e f = e ∙ ap (shapeOf du dv nu nv flags) f
 
 module _ (ku kv cs ws : List Float) {s t : Shape} (h : s ≡ t) where
   pub evaluated-by : (u v : Float) {q : Evaluation} → q ≡ evaluated (surface s ku kv cs ws) u v → q ≡ evaluated (surface t ku kv cs ws) u v

@@ -23,14 +23,16 @@ use Rattle.laid.specs.Laid.{Evaluates, jetInto, Places, answerOfPlacing, answer
 abbrev pub vector : Float → Float → Float → Vector3
 vector x y z = record { x = x; y = y; z = z }
 
+-- of a surface a call takes its flags and the count of its window, which it tests, beside what was read of both
+
 -- ---- an evaluation
 
 unfoldable pub evaluatesIf : Bool → Evaluation → List Float → Evaluates
 evaluatesIf false e jet = record { number = 99; jet = jet }
 evaluatesIf true e jet = jetInto e jet
 
-unfoldable pub evaluates : ℕ → Surface → Float → Float → List Float → Evaluates
-evaluates flags s u v jet = evaluatesIf (fitsJet flags (length jet)) (evaluated s u v) jet
+unfoldable pub evaluates : (flags window : ℕ) → Surface → Float → Float → List Float → Evaluates
+evaluates flags window s u v jet = evaluatesIf (fitsJet flags window (length jet)) (evaluated s u v) jet
 
 -- ---- a pair for units of a budget
 
@@ -53,12 +55,12 @@ invertsIf true call budget pair ended =
     let a = answerInto (answerOfPlacing p) budget pair in
     record { number = a .number; budget = a .budget; pair = a .pair; ended = endInto p ended }
 
-unfoldable pub inverts : ℕ → Surface → Vector3 → (hint : List Float) → Float → (pu pv : List Float) → List ℕ → List Float → List ℕ → Inverts
-inverts flags s mark hint tolerance pu pv budget pair ended =
-    invertsIf (fitsInversion flags (length hint) (length pu) (length pv) (length budget) (length pair) (length ended)) (placed s mark (termsOf hint tolerance pu pv)) budget pair ended
+unfoldable pub inverts : (flags window : ℕ) → Surface → Vector3 → (hint : List Float) → Float → (pu pv : List Float) → List ℕ → List Float → List ℕ → Inverts
+inverts flags window s mark hint tolerance pu pv budget pair ended =
+    invertsIf (fitsInversion flags window (length hint) (length pu) (length pv) (length budget) (length pair) (length ended)) (placed s mark (termsOf hint tolerance pu pv)) budget pair ended
 
-unfoldable pub derives : ℕ → Surface → Float → Float → Vector3 → List ℕ → List Float → Places
-derives flags s u v d budget pair = placesIf (fitsDerivative flags (length budget) (length pair)) (λ b. answerOfComponents (derived s u v d b)) budget pair
+unfoldable pub derives : (flags window : ℕ) → Surface → Float → Float → Vector3 → List ℕ → List Float → Places
+derives flags window s u v d budget pair = placesIf (fitsDerivative flags window (length budget) (length pair)) (λ b. answerOfComponents (derived s u v d b)) budget pair
 
 unfoldable pub locates : Frame → Vector3 → List ℕ → List Float → Places
 locates f mark budget pair = placesIf (roomy (length budget) (length pair)) (λ b. answerOfComponents (placedOn f mark b)) budget pair
@@ -79,9 +81,9 @@ rowsIf true row budget index answers ends =
     let l = leaving (row (getD budget 0 0)) answers ends in
     record { number = numberOf (l .ended); budget = firstOf (leftOf (l .ended)) budget; index = firstOf (indexOf (l .ended)) index; answers = l .answers; ends = l .ends }
 
-unfoldable pub rows : ℕ → Surface → (marks hint : List Float) → Float → (pu pv : List Float) → List ℕ → List ℕ → List Float → List ℕ → Rows
-rows flags s marks hint tolerance pu pv budget index answers ends =
-    rowsIf (fitsRow flags (length hint) (length pu) (length pv) (length budget) (length index)) (rowInto s marks (length answers) (length ends) (termsOf hint tolerance pu pv)) budget index answers ends
+unfoldable pub rows : (flags window : ℕ) → Surface → (marks hint : List Float) → Float → (pu pv : List Float) → List ℕ → List ℕ → List Float → List ℕ → Rows
+rows flags window s marks hint tolerance pu pv budget index answers ends =
+    rowsIf (fitsRow flags window (length hint) (length pu) (length pv) (length budget) (length index)) (rowInto s marks (length answers) (length ends) (termsOf hint tolerance pu pv)) budget index answers ends
 
 -- ---- the edges
 
@@ -89,8 +91,8 @@ unfoldable pub tellsIf : Bool → Edges → List ℕ → List Float → Tells
 tellsIf false found collapsed edges = record { number = 99; collapsed = collapsed; edges = edges }
 tellsIf true found collapsed edges = edgesInto found collapsed edges
 
-unfoldable pub tells : ℕ → Surface → Float → List ℕ → List Float → Tells
-tells flags s tolerance collapsed edges = tellsIf (fitsEdges flags (length collapsed) (length edges)) (singular s tolerance) collapsed edges
+unfoldable pub tells : (flags window : ℕ) → Surface → Float → List ℕ → List Float → Tells
+tells flags window s tolerance collapsed edges = tellsIf (fitsEdges flags window (length collapsed) (length edges)) (singular s tolerance) collapsed edges
 
 -- ---- a job
 

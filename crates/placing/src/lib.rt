@@ -1,5 +1,5 @@
 // The calls for C and Rust, on numbers and lent slices. Each tests every argument, answers the number of its refusal or 0, and writes the rest of its answer to the slices lent for it.
-// A surface is lent as the degrees (du, dv) and the counts of controls (nu, nv), the flags (1 where u is periodic, and 2 more where v is), the knots (ku, kv), the controls and the weights.
+// A surface is lent as the degrees (du, dv) and the counts of controls (nu, nv), the flags (1 where u is periodic, and 2 more where v is), the knots (ku, kv), the controls, the weights and the window: its lowest and highest u, then those of v, or no number for the whole domain.
 use domain::shape_of;
 use edges::nurbs_singular;
 use inverter::Frame;
@@ -24,15 +24,18 @@ use lent::fits_job;
 use lent::fits_row;
 use lent::roomy;
 use lent::terms_of;
+use lent::window_from;
 use row::row;
 use surface::evaluate;
 use vector3::Vector3;
 ghost use mathlib.Core.Path.{_≡_};
+ghost use lib.ListN.{length};
 ghost use Rattle.domain.specs.Flags.{shapeOf};
 ghost use Rattle.surface.specs.Lent.{atEntry};
+ghost use Rattle.lent.specs.Lent.{windowFrom};
 ghost use Rattle.placing.specs.Boundary.{vector, evaluates, inverts, rows, derives, tells, locates, prints};
 
-// Answered, before any other check and with nothing written, where flags are above 3, a hint or a period has another count of numbers, or a slice is too short for what is to be written. No document gives this number a meaning of its own.
+// Answered, before any other check and with nothing written, where flags are above 3, a window, a hint or a period has another count of numbers, or a slice is too short for what is to be written. No document gives this number a meaning of its own.
 const UNFIT: u64 = 99;
 
 // Nine numbers: the point, the derivative along u and that along v.
@@ -47,16 +50,17 @@ pub extern "C" fn placing_evaluate(
     kv: &[f64],
     controls: &[f64],
     weights: &[f64],
+    window: &[f64],
     u: f64,
     v: f64,
     jet: &mut [f64],
 ) -> u64
-    ensures { λ r. ⌜ record { number = r; jet = now (jet .exit) } ≡ evaluates flags (atEntry (shapeOf du dv nu nv flags) ku kv controls weights) u v (now (jet .entry)) ⌝ }
+    ensures { λ r. ⌜ record { number = r; jet = now (jet .exit) } ≡ evaluates flags (length (now (window .entry))) (atEntry (shapeOf du dv nu nv flags (windowFrom (now (window .entry)))) ku kv controls weights) u v (now (jet .entry)) ⌝ }
 {
-    if !fits_jet(flags, jet.len()) {
+    if !fits_jet(flags, window.len(), jet.len()) {
         return UNFIT;
     }
-    let shape = shape_of(du, dv, nu, nv, flags);
+    let shape = shape_of(du, dv, nu, nv, flags, window_from(window));
     let found = evaluate(shape, ku, kv, controls, weights, u, v);
     lay_jet(found, jet)
 }
@@ -73,6 +77,7 @@ pub extern "C" fn placing_invert(
     kv: &[f64],
     controls: &[f64],
     weights: &[f64],
+    window: &[f64],
     x: f64,
     y: f64,
     z: f64,
@@ -84,10 +89,11 @@ pub extern "C" fn placing_invert(
     pair: &mut [f64],
     ended: &mut [u8],
 ) -> u64
-    ensures { λ r. ⌜ record { number = r; budget = now (budget .exit); pair = now (pair .exit); ended = now (ended .exit) } ≡ inverts flags (atEntry (shapeOf du dv nu nv flags) ku kv controls weights) (vector x y z) (now (hint .entry)) tolerance (now (pu .entry)) (now (pv .entry)) (now (budget .entry)) (now (pair .entry)) (now (ended .entry)) ⌝ }
+    ensures { λ r. ⌜ record { number = r; budget = now (budget .exit); pair = now (pair .exit); ended = now (ended .exit) } ≡ inverts flags (length (now (window .entry))) (atEntry (shapeOf du dv nu nv flags (windowFrom (now (window .entry)))) ku kv controls weights) (vector x y z) (now (hint .entry)) tolerance (now (pu .entry)) (now (pv .entry)) (now (budget .entry)) (now (pair .entry)) (now (ended .entry)) ⌝ }
 {
     if !fits_inversion(
         flags,
+        window.len(),
         hint.len(),
         pu.len(),
         pv.len(),
@@ -97,7 +103,7 @@ pub extern "C" fn placing_invert(
     ) {
         return UNFIT;
     }
-    let shape = shape_of(du, dv, nu, nv, flags);
+    let shape = shape_of(du, dv, nu, nv, flags, window_from(window));
     let mark = Vector3 { x, y, z };
     let terms = terms_of(hint, tolerance, pu, pv);
     let placing = invert(shape, ku, kv, controls, weights, mark, terms, budget[0]);
@@ -117,6 +123,7 @@ pub extern "C" fn placing_row(
     kv: &[f64],
     controls: &[f64],
     weights: &[f64],
+    window: &[f64],
     marks: &[f64],
     hint: &[f64],
     tolerance: f64,
@@ -127,10 +134,11 @@ pub extern "C" fn placing_row(
     answers: &mut [f64],
     ends: &mut [u8],
 ) -> u64
-    ensures { λ r. ⌜ record { number = r; budget = now (budget .exit); index = now (index .exit); answers = now (answers .exit); ends = now (ends .exit) } ≡ rows flags (atEntry (shapeOf du dv nu nv flags) ku kv controls weights) (now (marks .entry)) (now (hint .entry)) tolerance (now (pu .entry)) (now (pv .entry)) (now (budget .entry)) (now (index .entry)) (now (answers .entry)) (now (ends .entry)) ⌝ }
+    ensures { λ r. ⌜ record { number = r; budget = now (budget .exit); index = now (index .exit); answers = now (answers .exit); ends = now (ends .exit) } ≡ rows flags (length (now (window .entry))) (atEntry (shapeOf du dv nu nv flags (windowFrom (now (window .entry)))) ku kv controls weights) (now (marks .entry)) (now (hint .entry)) tolerance (now (pu .entry)) (now (pv .entry)) (now (budget .entry)) (now (index .entry)) (now (answers .entry)) (now (ends .entry)) ⌝ }
 {
     if !fits_row(
         flags,
+        window.len(),
         hint.len(),
         pu.len(),
         pv.len(),
@@ -139,7 +147,7 @@ pub extern "C" fn placing_row(
     ) {
         return UNFIT;
     }
-    let shape = shape_of(du, dv, nu, nv, flags);
+    let shape = shape_of(du, dv, nu, nv, flags, window_from(window));
     let ended = row(
         shape,
         ku,
@@ -167,6 +175,7 @@ pub extern "C" fn placing_derivative(
     kv: &[f64],
     controls: &[f64],
     weights: &[f64],
+    window: &[f64],
     u: f64,
     v: f64,
     x: f64,
@@ -175,12 +184,12 @@ pub extern "C" fn placing_derivative(
     budget: &mut [u64],
     pair: &mut [f64],
 ) -> u64
-    ensures { λ r. ⌜ record { number = r; budget = now (budget .exit); pair = now (pair .exit) } ≡ derives flags (atEntry (shapeOf du dv nu nv flags) ku kv controls weights) u v (vector x y z) (now (budget .entry)) (now (pair .entry)) ⌝ }
+    ensures { λ r. ⌜ record { number = r; budget = now (budget .exit); pair = now (pair .exit) } ≡ derives flags (length (now (window .entry))) (atEntry (shapeOf du dv nu nv flags (windowFrom (now (window .entry)))) ku kv controls weights) u v (vector x y z) (now (budget .entry)) (now (pair .entry)) ⌝ }
 {
-    if !fits_derivative(flags, budget.len(), pair.len()) {
+    if !fits_derivative(flags, window.len(), budget.len(), pair.len()) {
         return UNFIT;
     }
-    let shape = shape_of(du, dv, nu, nv, flags);
+    let shape = shape_of(du, dv, nu, nv, flags, window_from(window));
     let d = Vector3 { x, y, z };
     let components = derivative(shape, ku, kv, controls, weights, u, v, d, budget[0]);
     lay_answer(answer_of_components(components), budget, pair)
@@ -198,16 +207,17 @@ pub extern "C" fn placing_nurbs_singular(
     kv: &[f64],
     controls: &[f64],
     weights: &[f64],
+    window: &[f64],
     tolerance: f64,
     collapsed: &mut [u64],
     edges: &mut [f64],
 ) -> u64
-    ensures { λ r. ⌜ record { number = r; collapsed = now (collapsed .exit); edges = now (edges .exit) } ≡ tells flags (atEntry (shapeOf du dv nu nv flags) ku kv controls weights) tolerance (now (collapsed .entry)) (now (edges .entry)) ⌝ }
+    ensures { λ r. ⌜ record { number = r; collapsed = now (collapsed .exit); edges = now (edges .exit) } ≡ tells flags (length (now (window .entry))) (atEntry (shapeOf du dv nu nv flags (windowFrom (now (window .entry)))) ku kv controls weights) tolerance (now (collapsed .entry)) (now (edges .entry)) ⌝ }
 {
-    if !fits_edges(flags, collapsed.len(), edges.len()) {
+    if !fits_edges(flags, window.len(), collapsed.len(), edges.len()) {
         return UNFIT;
     }
-    let shape = shape_of(du, dv, nu, nv, flags);
+    let shape = shape_of(du, dv, nu, nv, flags, window_from(window));
     let found = nurbs_singular(shape, ku, kv, controls, weights, tolerance);
     lay_edges(found, collapsed, edges)
 }

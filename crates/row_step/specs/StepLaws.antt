@@ -9,10 +9,10 @@ use Rattle.patch.specs.declared.Jet.{Jet}
 use Rattle.patch.specs.declared.Evaluated.the-variants as Eval
 use Rattle.patch.specs.Patch.{fromMark}
 use Rattle.surface.specs.declared.Evaluation.the-variants.{Found}
-use Rattle.surface.specs.Surface.{Surface, axisU, axisV, scaleOf, refusalOfSurface, evaluateBy, evaluated, domainOf}
+use Rattle.surface.specs.Surface.{Surface, scaleOf, refusalOfSurface, evaluateBy, evaluated, windowOf}
 use Rattle.surface.specs.NumberLaws.{evaluate-found}
 use Rattle.surface.specs.SurfaceLaws.{checked-scale}
-use Rattle.grid.specs.Axis.{valuesOf}
+use Rattle.window.specs.Values.{valuesU, valuesV}
 use Rattle.newton.specs.declared.Iterate.{Iterate}
 use Rattle.newton.specs.RunLaws.{Reached}
 use Rattle.inversion.specs.declared.Hint.{Hint}
@@ -94,7 +94,7 @@ Lost tolerance (Placing.Pair c n) = within (c .end) tolerance ≡ false
 Lost tolerance (Placing.Refusal number n) = Unit {0}
 
 module _ (s : Surface) (mark : Vector3) (terms : Terms) (off : OffShell s mark (terms .tolerance)) where
-  reached-far : (m : Float) → (refusalOfSurface s ≡ 0) × (m ≡ scaleOf s) → (p : Iterate) → Reached (domainOf s) mark (evaluateBy s m) p → le (p .distance) (terms .tolerance) ≡ false
+  reached-far : (m : Float) → (refusalOfSurface s ≡ 0) × (m ≡ scaleOf s) → (p : Iterate) → Reached (windowOf s) mark (evaluateBy s m) p → le (p .distance) (terms .tolerance) ≡ false
   reached-far m e p r =
       let f : evaluateBy s (scaleOf s) (p .u) (p .v) ≡ Eval.Found (r .jet) = rw (← e .1) (r .found) in
       rw (r .distance) (off (p .u) (p .v) (r .jet) (evaluate-found s (p .u) (p .v) (r .jet) .1 (e .0, f)))
@@ -109,6 +109,6 @@ module _ (s : Surface) (mark : Vector3) (terms : Terms) (off : OffShell s mark (
         eight = tt;
         nine = λ n l. tt;
         pair = λ m k c n l w.
-            let r = rw w at (pair-held (domainOf s) mark (evaluateBy s m) (valuesOf (axisU s)) (valuesOf (axisV s)) (terms .hint) (terms .tolerance)) in
+            let r = rw w at (pair-held (windowOf s) mark (evaluateBy s m) (valuesU s) (valuesV s) (terms .hint) (terms .tolerance)) in
             rw (same-distance (terms .hint) (terms .u) (terms .v) (c .end .at)) (reached-far m (checked-scale s m k) (c .end .at) r);
       })

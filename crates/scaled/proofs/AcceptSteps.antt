@@ -16,7 +16,8 @@ use Rattle.basis.specs.Magnitude as Basis
 use Rattle.domain.specs.declared.Domain.{Domain}
 use Rattle.surface.specs.declared.Checked.{Checked}
 use Rattle.surface.specs.declared.Checked.the-variants as Check
-use Rattle.surface.specs.Surface.{Surface, axisU, axisV, checked, domainOf}
+use Rattle.surface.specs.Surface.{Surface, axisU, axisV, checked, windowOf}
+use Rattle.surface.specs.Doubles.{Doubled}
 use Rattle.surface.specs.SurfaceLaws.{AcceptedSurface, accepted-surface, checked-scale}
 use Rattle.scaled.specs.Magnitude.{Bounded}
 use Rattle.scaled.specs.Accepted.{Accepts}
@@ -51,15 +52,16 @@ module _ (s : Surface) {c : Checked} (e : c ≡ checked s) {m : Float} (h : c �
   sound = accepted-surface s (checked-scale s m scale .0)
 
   -- the tests of the sizes, by what each of them tells
-  pub accepts : (d : Domain) (p q r : Bool) → (d .u ≡ domainOf s .u) × (d .v ≡ domainOf s .v)
-      → (refusalOfKnots (axisU s) ≡ 0 → p ≡ true → Basis.Bounded (axisU s)) → (refusalOfKnots (axisV s) ≡ 0 → q ≡ true → Basis.Bounded (axisV s)) → Told (s .controls) (length (s .controls)) r
-      → Accepts s (record { shape = s .shape; domain = d; largest = m; bounded = p && q && r })
-  accepts d p q r ends hu hv hc = record {
+  pub accepts : (d : Domain) (p q r : Bool) → d ≡ windowOf s
+      → (refusalOfKnots (axisU s) ≡ 0 → p ≡ true → Basis.Bounded (axisU s)) → (refusalOfKnots (axisV s) ≡ 0 → q ≡ true → Basis.Bounded (axisV s)) → Told (s .controls) (length (s .controls)) r → Doubled s
+      → Accepts s (record { shape = s .shape; window = d; largest = m; bounded = p && q && r })
+  accepts d p q r e hu hv hc doubles = record {
     shape = refl;
-    domain = rw (← ends .0, ← ends .1);
+    window = e;
     checked = scale;
     bounded = λ b.
         let y = and-eq-true-iff (p && q) r .0 b in
         let z = and-eq-true-iff p q .0 (y .0) in
         record { u = hu (sound .knots-u) (z .0); v = hv (sound .knots-v) (z .1); controls = hc (y .1) };
+    doubles = doubles;
   }

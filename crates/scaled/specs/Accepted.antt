@@ -3,8 +3,9 @@ use mathlib.Core.Path.{_≡_, sym, subst}
 use mathlib.Core.Bool.{true}
 use Rattle.domain.specs.declared.Shape.{Shape}
 use Rattle.surface.specs.declared.Checked.the-variants as Check
-use Rattle.surface.specs.Surface.{Surface, surface, checked, refusalOfSurface, scaleOf, domainOf}
+use Rattle.surface.specs.Surface.{Surface, surface, checked, refusalOfSurface, scaleOf, windowOf}
 use Rattle.surface.specs.SurfaceLaws.{checked-scale}
+use Rattle.surface.specs.Doubles.{Doubled}
 use Rattle.scaled.specs.declared.Accepted.{Accepted}
 use Rattle.scaled.specs.declared.Acceptance.{Acceptance}
 use Rattle.scaled.specs.declared.Acceptance.the-variants as Acceptance
@@ -12,9 +13,10 @@ use Rattle.scaled.specs.Magnitude.{Bounded}
 
 pub record Accepts (s : Surface) (a : Accepted) : Type 0 where
   pub shape : a .shape ≡ s .shape
-  pub domain : a .domain ≡ domainOf s
+  pub window : a .window ≡ windowOf s
   pub checked : checked s ≡ Check.Scale (a .largest)
   pub bounded : a .bounded ≡ true → Bounded s
+  pub doubles : Doubled s
 
 -- by what was answered
 abbrev pub AcceptedAs : Surface → Acceptance → Type 0

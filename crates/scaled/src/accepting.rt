@@ -3,7 +3,7 @@ use crate::Acceptance;
 use crate::Accepted;
 use bound::bounded;
 use domain::Shape;
-use domain::domain_of;
+use domain::window_of;
 use surface::Checked;
 use surface::check;
 ghost use mathlib.Core.Path.{_≡_};
@@ -38,10 +38,10 @@ pub fn accept(shape: Shape, ku: &[f64], kv: &[f64], controls: &[f64], weights: &
     match checked {
         Checked::Refusal(n) => Acceptance::Refusal(n),
         Checked::Scale(largest) => {
-            let domain = domain_of(shape, ku, kv);
+            let window = window_of(shape, ku, kv);
             Acceptance::Accepted(Accepted {
                 shape,
-                domain,
+                window,
                 largest,
                 bounded: bounded(ku) & bounded(kv) & all_within(controls),
             })

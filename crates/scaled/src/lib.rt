@@ -15,10 +15,10 @@ ghost use Rattle.surface.specs.Surface.{evaluateBy};
 ghost use Rattle.surface.specs.Lent.{surfaceOf, atEntry};
 ghost use Rattle.scaled.specs.Accepted.{Accepts};
 
-// What the checks accepted: the surface's shape and domain, and how it is evaluated: by its largest weight, and with no test for an overflow where the sizes of its numbers rule one out.
+// What the checks accepted: the surface's shape, where marks may lie, and how it is evaluated: by its largest weight, and with no test for an overflow where the sizes of its numbers rule one out.
 pub struct Accepted {
     pub shape: Shape,
-    pub domain: Domain,
+    pub window: Domain,
     pub largest: f64,
     pub bounded: bool,
 }

@@ -11,7 +11,8 @@ use Rattle.spline.specs.declared.weights.Weighed.the-variants as Weighed
 use Rattle.spline.specs.Weights.{weighed, refusalOf}
 use Rattle.spline.specs.Knots.{allFinite, refusalOfKnots}
 use Rattle.surface.specs.declared.Checked.the-variants.{Scale, Refusal}
-use Rattle.surface.specs.Surface.{Surface, axisU, axisV, total, orElse, when, tooLarge, miscounted, refusalOfSurface, judged, checked}
+use Rattle.domain.specs.Windows.{misfits}
+use Rattle.surface.specs.Surface.{Surface, axisU, axisV, domainOf, total, orElse, when, tooLarge, miscounted, refusalOfSurface, judged, checked}
 use Rattle.surface.specs.SurfaceLaws.{scale-is}
 
 -- ---- a product of counts that can't wrap
@@ -28,8 +29,11 @@ module _ (a b : ℕ) (n : a ≡ 0 → ⊥) where
 
 -- ---- what is left of the checks
 
+abbrev pub fromWindow : Surface → ℕ
+fromWindow s = when (misfits (s .shape .window) (domainOf s)) 24
+
 abbrev pub fromKnotsV : Surface → ℕ
-fromKnotsV s = refusalOfKnots (axisV s)
+fromKnotsV s = orElse (refusalOfKnots (axisV s)) (fromWindow s)
 
 abbrev pub fromKnotsU : Surface → ℕ
 fromKnotsU s = orElse (refusalOfKnots (axisU s)) (fromKnotsV s)
@@ -47,12 +51,12 @@ abbrev pub Leaves : (Surface → ℕ) → Surface → Type 0
 Leaves rest s = refusalOfSurface s ≡ rest s
 
 module _ (s : Surface) where
-  pub refused : (r : ℕ) → refusalOfSurface s ≡ r → (r ≡ 0 → ⊥) → Refusal r ≡ checked s
+  refused : (r : ℕ) → refusalOfSurface s ≡ r → (r ≡ 0 → ⊥) → Refusal r ≡ checked s
   unfolding checked judged
   refused zero e h = absurd (h refl)
   refused (suc k) e h = rw e
 
-  pub accepted : (m : Float) → weighed (s .weights) ≡ Weighed.Scale m → refusalOfSurface s ≡ 0 → Scale m ≡ checked s
+  accepted : (m : Float) → weighed (s .weights) ≡ Weighed.Scale m → refusalOfSurface s ≡ 0 → Scale m ≡ checked s
   unfolding checked judged
   accepted m w e = rw (e, scale-is s m w)
 
@@ -123,3 +127,18 @@ module _ (s : Surface) where
     pub to-knots-v : r ≡ 0 → Leaves fromKnotsV s
     unfolding orElse
     to-knots-v z = rw (sym e, z) at k
+
+  module _ (r : ℕ) (k : Leaves fromKnotsV s) (e : r ≡ refusalOfKnots (axisV s)) where
+    pub refused-v : (r ≡ 0 → ⊥) → Refusal r ≡ checked s
+    refused-v n = first r _ (rw (sym e) at k) n
+
+    pub to-window : r ≡ 0 → Leaves fromWindow s
+    unfolding orElse
+    to-window z = rw (sym e, z) at k
+
+  module _ (k : Leaves fromWindow s) where
+    pub refused-window : misfits (s .shape .window) (domainOf s) ≡ true → Refusal 24 ≡ checked s
+    refused-window t = refused 24 (rw t at k) (λ z. omega arith)
+
+    pub accepted-window : (m : Float) → weighed (s .weights) ≡ Weighed.Scale m → misfits (s .shape .window) (domainOf s) ≡ false → Scale m ≡ checked s
+    accepted-window m w t = accepted m w (rw t at k)

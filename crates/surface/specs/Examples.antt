@@ -13,6 +13,7 @@ use Rattle.patch.specs.declared.Evaluated.{Evaluated}
 use Rattle.patch.specs.declared.Evaluated.the-variants as Eval
 use Rattle.patch.specs.Patch.{addControl, emptySums, jetOf, rational}
 use Rattle.domain.specs.declared.Counts.{Counts}
+use Rattle.domain.specs.declared.Window.the-variants.{Whole}
 use Rattle.surface.specs.declared.Checked.{Checked}
 use Rattle.surface.specs.declared.Checked.the-variants.{Refusal}
 use Rattle.surface.specs.declared.Evaluation.the-variants.{Found}
@@ -25,7 +26,7 @@ counts : ℕ → Counts
 counts n = record { degree = 1; controls = n; periodic = false }
 
 check : ℕ → ℕ → List Float → Checked
-check m n cs = checked (surface (record { u = counts m; v = counts n }) [] [] cs [])
+check m n cs = checked (surface (record { u = counts m; v = counts n; window = Whole }) [] [] cs [])
 
 controls-and-no-weights : check 1 1 (0· ∷ 0· ∷ 0· ∷ []) ≡ Refusal 2
 unfolding compute check counts
@@ -63,7 +64,7 @@ abbrev weights : List Float
 weights = 3· ∷ 3· ∷ 1· ∷ 1· ∷ 5· ∷ 5· ∷ []
 
 abbrev rows : Surface
-rows = surface (record { u = counts 3; v = counts 2 }) knots-u knots-v controls weights
+rows = surface (record { u = counts 3; v = counts 2; window = Whole }) knots-u knots-v controls weights
 
 -- the functions of both axes at ½
 abbrev halves : List Three

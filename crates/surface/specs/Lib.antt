@@ -1,4 +1,5 @@
 pub mod Surface
+pub mod Doubles
 pub mod Compute
 pub mod Refusals
 pub mod SurfaceLaws

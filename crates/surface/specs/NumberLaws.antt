@@ -7,9 +7,10 @@ use Prim.Native.Nat.{ℕ, zero, suc, _<_}
 use native.Mathlib.Omega.{arith}
 use lib.Dec.{ltb, eqb}
 use lib.ListN.{length}
-use lib.Ieee.{Float, eq}
+use lib.Ieee.{Float, lt, eq}
 use borrow.Author.Tests.{ltb-true, ltb-false, eqb-true, eqb-false, not-true, not-false}
 use Rattle.float64.specs.Operators.{_⊘_, 0·}
+use Rattle.float64.specs.Functions.{isFinite}
 use Rattle.spline.specs.declared.weights.Weighed.the-variants as Weighed
 use Rattle.spline.specs.Weights.{isEmpty, sound, largest, vanishing, weighed, refusalOf}
 use Rattle.spline.specs.WeightLaws.{sound-each}
@@ -21,8 +22,13 @@ use Rattle.patch.specs.declared.Evaluated.the-variants as Eval
 use Rattle.patch.specs.Laws.{FiniteJet}
 use Rattle.surface.specs.declared.Checked.the-variants as Check
 use Rattle.surface.specs.declared.Evaluation.the-variants.{Found}
-use Rattle.surface.specs.Surface.{Surface, axisU, axisV, orElse, when, tooLarge, miscounted, refusalOfSurface, scaleOf, judged, checked, evaluateBy, orNine, evaluatedBy, evaluated, numberOfChecked, numberOf}
-use Rattle.surface.specs.Refusals.{Line, this, next, None, TooLarge, Miscounted, Some, Unweighed, KnotLines, SurfaceLines}
+use Rattle.domain.specs.declared.Window.{Window}
+use Rattle.domain.specs.declared.Window.the-variants.{Whole, Within}
+use Rattle.domain.specs.declared.Interval.{Interval}
+use Rattle.domain.specs.declared.Domain.{Domain}
+use Rattle.domain.specs.Windows.{misfitsOn, misfits}
+use Rattle.surface.specs.Surface.{Surface, axisU, axisV, domainOf, orElse, when, tooLarge, miscounted, refusalOfSurface, scaleOf, judged, checked, evaluateBy, orNine, evaluatedBy, evaluated, numberOfChecked, numberOf}
+use Rattle.surface.specs.Refusals.{Line, this, next, None, TooLarge, Miscounted, Some, Unweighed, KnotLines, Misfit, Unwindowed, SurfaceLines}
 use Rattle.surface.specs.SurfaceLaws.{finite-each, some-fails}
 use Rattle.surface.specs.EvaluateLaws.{evaluate-finite}
 
@@ -96,6 +102,33 @@ vanishes m ws =
 unweighed : (ws : List Float) → Decides (isEmpty ws || not (sound ws) || vanishing (largest 0· ws) ws) (Unweighed ws)
 unweighed ws = rw or-assoc (either _ _ (empty ws) (either _ _ (some-failing sound-each ws) (vanishes (largest 0· ws) ws)))
 
+-- a test and its negation
+fails : (b : Bool) → Decides (not b) (b ≡ false)
+fails true = (λ e. absurd (false≢true e), λ e f. true≢false f)
+fails false = (λ e. refl, λ e. absurd (true≢false e))
+
+passes : (b : Bool) → Decides b (b ≡ true)
+passes true = (λ e. refl, λ e. absurd (true≢false e))
+passes false = (λ e. absurd (false≢true e), λ e f. false≢true f)
+
+both : {C D : Type 0} (b c : Bool) → Decides b C → Decides c D → Decides (b && c) (C × D)
+both true true p q = (λ e. (p .0 refl, q .0 refl), λ e. absurd (true≢false e))
+both true false p q = (λ e. absurd (false≢true e), λ e h. q .1 refl (h .1))
+both false c p q = (λ e. absurd (false≢true e), λ e h. p .1 refl (h .0))
+
+misfit : (i : Interval) (lo hi : Float) → Decides (misfitsOn i lo hi) (Misfit i lo hi)
+unfolding misfitsOn
+misfit i lo hi =
+    simp or-assoc
+    (either _ _ (fails (isFinite lo))
+    (either _ _ (fails (isFinite hi))
+    (either _ _ (fails (lt lo hi)) (either _ _ (passes (lt lo (i .low))) (either _ _ (passes (lt (i .high) hi)) (both _ _ (passes (i .periodic)) (fails (eq lo (i .low) && eq hi (i .high)))))))))
+
+unwindowed : (w : Window) (d : Domain) → Decides (misfits w d) (Unwindowed w d)
+unfolding misfits
+unwindowed Whole d = (λ e. absurd (false≢true e), λ e h. h)
+unwindowed (Within a b c e) d = either _ _ (misfit (d .u) a b) (misfit (d .v) c e)
+
 module _ (later : ℕ → Type 0) (n : ℕ) (l : later n) where
   -- a line that is tested before what later lines answer
   pub tested : {cause : Type 0} (k : ℕ) (b : Bool) → Decides b cause → Line cause (suc k) later (orElse (when b (suc k)) n)
@@ -124,7 +157,8 @@ module _ (s : Surface) (later : ℕ → Type 0) where
   surface-tested : (n : ℕ) → later n → SurfaceLines s later (orElse (refusalOfSurface s) n)
   unfolding refusalOfSurface
   surface-tested n l =
-      let v = knots-tested later n l (axisV s) in
+      let window = tested later n l 23 _ (unwindowed (s .shape .window) (domainOf s)) in
+      let v = knots-tested _ _ window (axisV s) in
       let u = knots-tested _ _ v (axisU s) in
       let four = weights-tested _ _ u (s .weights) in
       let three = tested _ _ four 2 _ (some-failing finite-each (s .controls)) in
@@ -134,7 +168,7 @@ module _ (s : Surface) (later : ℕ → Type 0) where
   -- where the lines after the surface's answer m, all of them answer `orElse (refusalOfSurface s) m` and nothing else
   pub numbered : One later → (m : ℕ) → later m → (n : ℕ) → SurfaceLines s later n ↔ (orElse (refusalOfSurface s) m ≡ n)
   numbered one m l n = (
-    λ h. line-one (line-one (line-one (line-one (line-one (line-one (line-one (line-one one))))))) _ _ (surface-tested m l) h,
+    λ h. line-one (line-one (line-one (line-one (line-one (line-one (line-one (line-one (line-one one)))))))) _ _ (surface-tested m l) h,
     λ e. subst (SurfaceLines s later) e (surface-tested m l),
   )
 

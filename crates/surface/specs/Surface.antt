@@ -17,7 +17,8 @@ use Rattle.patch.specs.declared.Evaluated.the-variants as Evaluated
 use Rattle.patch.specs.Patch.{addControl, emptySums, rational}
 use Rattle.domain.specs.declared.Shape.{Shape}
 use Rattle.domain.specs.declared.Domain.{Domain}
-use Rattle.domain.specs.Intervals.{intervalOf, wrapped}
+use Rattle.domain.specs.Intervals.{domainOn, wrapped}
+use Rattle.domain.specs.Windows.{misfits, windowIn}
 use Rattle.surface.specs.declared.Checked.{Checked}
 use Rattle.surface.specs.declared.Checked.the-variants as Check
 use Rattle.surface.specs.declared.Evaluation.{Evaluation}
@@ -42,13 +43,17 @@ axisV s = axis (s .shape .v .degree) (s .shape .v .controls) (s .knotsV)
 
 -- the knot domain of both axes
 abbrev pub domainOf : Surface → Domain
-domainOf s = record { u = intervalOf (s .shape .u) (s .knotsU); v = intervalOf (s .shape .v) (s .knotsV) }
+domainOf s = domainOn (s .shape) (s .knotsU) (s .knotsV)
+
+-- where marks may lie
+abbrev pub windowOf : Surface → Domain
+windowOf s = windowIn (s .shape .window) (domainOf s)
 
 -- how many controls there are to be
 abbrev pub total : Surface → ℕ
 total s = s .shape .u .controls * s .shape .v .controls
 
--- ---- when a surface is accepted: the numbers of 01's table, in its order; 0 is no refusal
+-- ---- when a surface is accepted: the numbers of 01's table, in its order, and 02's 24 after them; 0 is no refusal
 
 -- the first that refuses
 unfoldable pub orElse : ℕ → ℕ → ℕ
@@ -72,7 +77,8 @@ refusalOfSurface s =
     (orElse (when (miscounted s) 2)
     (orElse (when (not (allFinite (s .controls))) 3)
     (orElse (Weights.refusalOf (weighed (s .weights)))
-    (orElse (refusalOfKnots (axisU s)) (refusalOfKnots (axisV s))))))
+    (orElse (refusalOfKnots (axisU s))
+    (orElse (refusalOfKnots (axisV s)) (when (misfits (s .shape .window) (domainOf s)) 24))))))
 
 -- the largest weight
 abbrev pub scaleOf : Surface → Float

@@ -17,7 +17,8 @@ use Rattle.spline.specs.WeightLaws.{scale-of}
 use Rattle.spline.specs.Knots.{allFinite, refusalOfKnots}
 use Rattle.spline.specs.Each.{Each, each-at, all-of-each}
 use Rattle.surface.specs.declared.Checked.the-variants as Check
-use Rattle.surface.specs.Surface.{Surface, axisU, axisV, total, orElse, when, tooLarge, miscounted, refusalOfSurface, scaleOf, judged, checked}
+use Rattle.domain.specs.Windows.{misfits}
+use Rattle.surface.specs.Surface.{Surface, axisU, axisV, domainOf, total, orElse, when, tooLarge, miscounted, refusalOfSurface, scaleOf, judged, checked}
 
 -- ---- the checks
 
@@ -79,6 +80,7 @@ pub record AcceptedSurface (s : Surface) : Type 0 where
   pub scale : weighed (s .weights) ≡ Weighed.Scale (scaleOf s)
   pub knots-u : refusalOfKnots (axisU s) ≡ 0
   pub knots-v : refusalOfKnots (axisV s) ≡ 0
+  pub window : misfits (s .shape .window) (domainOf s) ≡ false
 
 pub accepted-surface : (s : Surface) → refusalOfSurface s ≡ 0 → AcceptedSurface s
 unfolding refusalOfSurface
@@ -88,6 +90,7 @@ accepted-surface s h =
     let t3 = none-of _ _ (t2 .1) in
     let t4 = none-of _ _ (t3 .1) in
     let t5 = none-of _ _ (t4 .1) in
+    let t6 = none-of _ _ (t5 .1) in
     let limits = small s (not-when _ _ (t1 .0)) in
     let counts = counted s (not-when _ _ (t2 .0)) in
     record {
@@ -98,7 +101,8 @@ accepted-surface s h =
       finite = λ i l. each-at finite-each (s .controls) i (not-false _ (not-when _ _ (t3 .0))) l;
       scale = scale-known s (t4 .0);
       knots-u = t5 .0;
-      knots-v = t5 .1;
+      knots-v = t6 .0;
+      window = not-when _ _ (t6 .1);
     }
 
 -- and a surface of which all that holds is accepted
@@ -114,6 +118,7 @@ surface-accepted s a =
       a .scale,
       a .knots-u,
       a .knots-v,
+      a .window,
     )
 
 pub checked-scale : (s : Surface) (m : Float) → checked s ≡ Check.Scale m → (refusalOfSurface s ≡ 0) × (m ≡ scaleOf s)

@@ -1,6 +1,7 @@
 // The checks of a surface, in the order of the numbers that they refuse with.
 use crate::Checked;
 use domain::Shape;
+use domain::window_misfits;
 use float64::is_finite;
 use spline::Weighed;
 use spline::check_knots;
@@ -39,7 +40,7 @@ fn all_finite(controls: &[f64]) -> bool
     all
 }
 
-// The checks of `NurbsSurface::new`, and that the controls are finite, three coordinates each.
+// The checks of `NurbsSurface::new`, that the controls are finite, three coordinates each, and that the window lies in the domain.
 pub fn check(shape: Shape, ku: &[f64], kv: &[f64], controls: &[f64], weights: &[f64]) -> Checked
     ensures { λ r. ⌜ r ≡ checked (atEntry shape ku kv controls weights) ⌝ }
 {
@@ -79,6 +80,9 @@ pub fn check(shape: Shape, ku: &[f64], kv: &[f64], controls: &[f64], weights: &[
     let refusal = check_knots(kv, dv, nv);
     if refusal != 0 {
         return Checked::Refusal(refusal);
+    }
+    if window_misfits(shape, ku, kv) {
+        return Checked::Refusal(24);
     }
     Checked::Scale(scale)
 }

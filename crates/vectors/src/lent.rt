@@ -24,8 +24,8 @@ pub fn of_surface(
     requires { ⌜ (length (now words) ≤ 4094) × (length (now bytes) ≡ 8 * length (now words)) × (length (now numbers) ≡ length (now words)) × (length (now copy) ≡ length (now words)) × (length (now ends) ≡ 8 * length (now words)) ⌝ }
 {
     let lent = lent_surface(Cursor::start(), words);
-    let weights = lent.weights;
-    let c = weights.next;
+    let window = lent.window;
+    let c = window.next;
     let at = c.at;
     if !c.sound {
         return Comparison::Unread;

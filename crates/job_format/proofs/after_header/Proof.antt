@@ -1,72 +1,45 @@
--- `job_format::after_header` meets its contract: each test that fails is a piece that is malformed. Assumes nothing.
-use mathlib.Core.Path.{refl}
-use native.Mathlib.Omega.{arith}
+-- `job_format::after_header` meets its contract: the surface ends with its window, if it has one. Assumes nothing.
+use mathlib.Core.Path.{_∙_}
 use borrow.Author.Tests.{not-true, not-false}
 use Rattle.job_format.specs.Offsets.{told}
-use Rattle.job_format.proofs.Steps.{cut-off, no-terms, bytes-left, no-mark, well-formed}
+use Rattle.job_format.proofs.Steps.{windowless, window-cut, windowed-by}
 use borrow.Author.Needs.{needs}
 use Rattle.job_format.proofs.after_header.Statement.{statement}
 use Rattle.job_format.proofs.after_header.Tie as tie
 
 returns : tie.Need-returns
-unfolding told
 returns c =
-    let n = c .before in
-    let a = n .before .before .args in
-    (cut-off (a .bytes .now) (a .shape) (n .numbers-end .result) (n .numbers-end .ensures .0) (n .before .before .pre .0) (c .if1 .taken), tt)
+    let i = c .before in
+    let st = i .before .before .before .before in
+    let r = c .after-surface .ensures in
+    (windowless (st .args .bytes .now) (st .pre .0) (st .args .header) (st .pre .3) (not-true _ (i .if1 .taken)) ∙ r .0, r .1)
 
 returns-2 : tie.Need-returns-2
 unfolding told
 returns-2 c =
-    let m = c .before in
-    let n = m .before .before in
-    let a = n .before .before .args in
-    (no-terms (a .bytes .now) (a .shape) (n .numbers-end .result) (n .numbers-end .ensures .0) (n .before .before .pre .0) (m .before .if1 .left) (m .is-mark .result) (m .is-mark .ensures) (not-true _ (c .if2 .taken)), tt)
+    let n = c .before in
+    let i = n .before in
+    let st = i .before .before .before .before in
+    (window-cut (st .args .bytes .now) (st .pre .0) (st .args .header) (st .pre .3) (n .surface-end .result) (n .surface-end .ensures .0) (not-false _ (i .if1 .left)) (c .if2 .taken), tt)
 
 returns-3 : tie.Need-returns-3
-unfolding told
 returns-3 c =
-    let t = c .before in
-    let m = t .before in
-    let n = m .before .before in
-    let a = n .before .before .args in
-    (bytes-left (a .bytes .now) (a .shape) (n .numbers-end .result) (n .numbers-end .ensures .0) (n .before .before .pre .0) (m .before .if1 .left) (m .is-mark .result) (m .is-mark .ensures) (not-false _ (t .if2 .left)) (λ z. omega arith), tt)
-
-returns-4 : tie.Need-returns-4
-unfolding told
-returns-4 c =
-    let l = c .before in
-    let t = l .before .before in
-    let m = t .before in
-    let n = m .before .before in
-    let a = n .before .before .args in
-    (no-mark (a .bytes .now) (a .shape) (n .numbers-end .result) (n .numbers-end .ensures .0) (n .before .before .pre .0) (m .before .if1 .left) (m .is-mark .result) (m .is-mark .ensures) (not-false _ (t .if2 .left)) _ refl (l .before .if3 .left) (l .all-marks .result) (l .all-marks .ensures) (not-true _ (c .if4 .taken)), tt)
-
-returns-5 : tie.Need-returns-5
-unfolding told
-returns-5 c =
-    let l = c .before in
-    let t = l .before .before in
-    let m = t .before in
-    let n = m .before .before in
-    let a = n .before .before .args in (
-      well-formed (a .bytes .now) (a .shape) (n .numbers-end .result) (n .numbers-end .ensures .0) (n .before .before .pre .0) (m .before .if1 .left) (m .is-mark .result) (m .is-mark .ensures) (not-false _ (t .if2 .left)) _ refl (l .before .if3 .left) (l .all-marks .result) (l .all-marks .ensures) (not-false _ (c .if4 .left)),
-      record { few = n .before .before .pre .1; whole = omega (arith, n .numbers-end .ensures .0, l .before .if3 .left) },
-    )
+    let w = c .before in
+    let n = w .before .before .before .before in
+    let i = n .before in
+    let st = i .before .before .before .before in
+    let r = c .after-surface2 .ensures in
+    (windowed-by (st .args .bytes .now) (st .pre .0) (st .args .header) (st .pre .3) (n .surface-end .result) (n .surface-end .ensures .0) (not-false _ (i .if1 .left)) (w .window-at .result) (w .window-at .ensures) ∙ r .0, r .1)
 
 pub after-header-spec : {M : Type 1} → statement M
 after-header-spec =
     tie.close
     (tie.spec
     (λ c κs. search needs)
-    (λ c. search needs)
     returns
     (λ c κs. search needs)
+    (λ c. search needs)
     returns-2
-    (λ c. search needs)
-    (λ c. search needs)
-    returns-3
-    (λ c. search needs)
     (λ c κs. search needs)
-    returns-4
-    returns-5)
+    (λ c κs. search needs)
+    returns-3)

@@ -39,7 +39,7 @@ returns-5 c =
     let m = t .before in
     let s = m .before .before in
     let bytes = s .before .before .args .bytes .now in (
-      past-header bytes (s .if1 .left) (m .before .if2 .left) (m .is-mark .result) (m .is-mark .ensures) (not-false _ (t .if3 .left)) _ (c .before .header-shape .ensures .0) ∙ c .after-header .ensures .0,
+      past-header bytes (s .if1 .left) (m .before .if2 .left) (m .is-mark .result) (m .is-mark .ensures) (not-false _ (t .if3 .left)) _ (c .before .header-of .ensures .0) ∙ c .after-header .ensures .0,
       c .after-header .ensures .1,
     )
 

@@ -6,7 +6,7 @@ use Rattle.lent.proofs.fits_derivative.Tie as tie
 
 returns : tie.Need-returns
 unfolding fitsDerivative
-returns c = both (c .before .sound-flags .ensures) (c .roomy .ensures)
+returns c = both (c .before .sound-surface .ensures) (c .roomy .ensures)
 
 pub fits-derivative-spec : {M : Type 1} → statement M
 fits-derivative-spec = tie.close (tie.spec (λ c κs. search needs) (λ c κs. search needs) returns)

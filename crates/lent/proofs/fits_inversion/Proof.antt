@@ -7,7 +7,7 @@ use Rattle.lent.proofs.fits_inversion.Tie as tie
 
 returns : tie.Need-returns
 unfolding fitsInversion
-returns c = both (both (both (c .before .before .sound-flags .ensures) (c .before .sound-options .ensures)) (c .roomy .ensures)) refl
+returns c = both (both (both (c .before .before .sound-surface .ensures) (c .before .sound-options .ensures)) (c .roomy .ensures)) refl
 
 pub fits-inversion-spec : {M : Type 1} → statement M
 fits-inversion-spec = tie.close (tie.spec (λ c κs. search needs) (λ c κs. search needs) (λ c κs. search needs) returns)

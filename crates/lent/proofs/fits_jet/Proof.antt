@@ -7,7 +7,7 @@ use Rattle.lent.proofs.fits_jet.Tie as tie
 
 returns : tie.Need-returns
 unfolding fitsJet
-returns c = both (c .sound-flags .ensures) refl
+returns c = both (c .sound-surface .ensures) refl
 
 pub fits-jet-spec : {M : Type 1} → statement M
 fits-jet-spec = tie.close (tie.spec (λ c κs. search needs) returns)

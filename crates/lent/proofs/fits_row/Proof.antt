@@ -6,7 +6,7 @@ use Rattle.lent.proofs.fits_row.Tie as tie
 
 returns : tie.Need-returns
 unfolding fitsRow
-returns c = both (both (c .before .before .sound-flags .ensures) (c .before .sound-options .ensures)) (c .roomy-row .ensures)
+returns c = both (both (c .before .before .sound-surface .ensures) (c .before .sound-options .ensures)) (c .roomy-row .ensures)
 
 pub fits-row-spec : {M : Type 1} → statement M
 fits-row-spec = tie.close (tie.spec (λ c κs. search needs) (λ c κs. search needs) (λ c κs. search needs) returns)

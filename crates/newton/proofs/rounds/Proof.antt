@@ -12,7 +12,7 @@ use Rattle.newton.proofs.rounds.Tie as tie
 abbrev Inv-loop : tie.InvT-loop
 Inv-loop accepted ku kv controls weights mark budget held₀ taken₀ held taken =
     let eval = evaluateBy (surface (accepted .shape) ku kv controls weights) (accepted .largest) in
-    Kept (accepted .domain) mark eval budget (rounds (accepted .domain) mark eval 32 1 held₀) held taken
+    Kept (accepted .window) mark eval budget (rounds (accepted .window) mark eval 32 1 held₀) held taken
 
 abbrev μ-loop : tie.MeasureT-loop
 μ-loop accepted ku kv controls weights mark budget held₀ taken₀ held taken = 33 - taken

@@ -4,6 +4,7 @@ use borrow.Author.Needs.{needs}
 use Rattle.surface.specs.Surface.{Surface, surface}
 use Rattle.surface.specs.SurfaceLaws.{AcceptedSurface, accepted-surface}
 use Rattle.scaled.specs.Accepted.{not-refused}
+use Rattle.window.specs.SurfaceLaws.{window-within-u, window-within-v}
 use Rattle.inversion.proofs.ExploreSteps.{Walks, walks, found-fits, refused-fits, explore-found, explore-refused, explore-spent}
 use Rattle.inversion.proofs.explore.explore.Statement.{statement}
 use Rattle.inversion.proofs.explore.explore.Tie as tie
@@ -15,21 +16,25 @@ known : (c : tie.Start) → AcceptedSurface (of c)
 known c = accepted-surface (of c) (not-refused (c .pre .0))
 
 abbrev start : tie.After-walk → tie.Start
-start c = c .before .before .before .before .before .before .before .before .before .before
+start c = c .before .before .before .before .before .before .before .before .before .before .before
 
 walked : (c : tie.After-walk) → Walks (of (start c)) (start c .args .accepted .largest) (start c .args .mark) (start c .args .lead .taken) (start c .args .budget) (c .walk .result)
 walked c =
     let vs = c .before .before in
-    walks _ _ _ _ _ _ (vs .before .axis-values .result) (vs .axis-values2 .result) (vs .before .axis-values .ensures .0) (vs .axis-values2 .ensures .0) (start c .pre .2) (c .walk .ensures .0)
+    walks _ _ _ _ _ _ (vs .before .axis-values .result) (vs .axis-values2 .result) (rw (start c .pre .0 .window) at (vs .before .axis-values .ensures .0)) (rw (start c .pre .0 .window) at (vs .axis-values2 .ensures .0)) (start c .pre .2) (c .walk .ensures .0)
 
 axis-values-requires : tie.Need-axis-values-requires
-axis-values-requires c κs = known (c .before .before .before .before .before .before) .knots-u
+axis-values-requires c κs =
+    let to = c .before .before .before .before .before .before .before in
+    (known to .knots-u, rw (to .pre .0 .window) (window-within-u (of to) (known to)))
 
 axis-values-requires-2 : tie.Need-axis-values-requires-2
-axis-values-requires-2 c κs = known (c .before .before .before .before .before .before .before) .knots-v
+axis-values-requires-2 c κs =
+    let to = c .before .before .before .before .before .before .before .before in
+    (known to .knots-v, rw (to .pre .0 .window) (window-within-v (of to) (known to)))
 
-add-t19 : tie.Need-add-t19
-add-t19 c =
+add-t20 : tie.Need-add-t20
+add-t20 c =
     let at = c .before .before .before in
     let to = at .before .before in
     record { fits = omega (arith, start to .fits, found-fits (walked to) (at .if1 .taken)) }
@@ -44,10 +49,10 @@ returns : tie.Need-returns
 returns c =
     let at = c .before .before .before .before in
     let to = at .before .before in
-    explore-found (walked to) _ _ _ (start to .pre .0 .domain) (at .if1 .taken) (c .search .ensures)
+    explore-found (walked to) _ _ _ (start to .pre .0 .window) (at .if1 .taken) (c .search .ensures)
 
-add-t20 : tie.Need-add-t20
-add-t20 c =
+add-t21 : tie.Need-add-t21
+add-t21 c =
     let at = c .before .before in
     let to = at .before .before .before .before in
     record { fits = omega (arith, start to .fits, refused-fits (walked to) (at .if2 .taken)) }
@@ -70,9 +75,9 @@ explore-spec =
     axis-values-requires-2
     (λ c. search needs)
     (λ c κs. search needs)
-    add-t19
+    add-t20
     search-requires
     returns
-    add-t20
+    add-t21
     returns-2
     returns-3)

@@ -14,7 +14,7 @@ use Rattle.inversion.proofs.search.search.Tie as tie
 
 abbrev Inv-loop : tie.InvT-loop
 Inv-loop accepted ku kv controls weights mark lead budget at best₀ taken₀ i₀ i-end best taken i =
-    let d = accepted .domain in
+    let d = accepted .window in
     let eval = evaluateBy (surface (accepted .shape) ku kv controls weights) (accepted .largest) in
     (i ≤ i-end) × Stands d mark eval (after taken₀ (searched d mark eval best₀ (lead .again) 1 (take i-end at))) at i-end budget (lead .again) taken best i
 

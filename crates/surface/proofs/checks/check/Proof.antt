@@ -4,7 +4,7 @@ use native.Mathlib.Omega.{arith}
 use borrow.Author.Needs.{needs}
 use borrow.Author.Tests.{not-true, not-false}
 use Rattle.surface.specs.Surface.{Surface, surface}
-use Rattle.surface.proofs.CheckSteps.{fromCounts, fromControls, fromWeights, fromKnotsU, fromKnotsV, Leaves, large-controls, large-knots, to-counts, miscounted-controls, miscounted-weights, to-controls, not-finite, to-weights, refused-weights, to-knots, refused-u, to-knots-v, refused, accepted}
+use Rattle.surface.proofs.CheckSteps.{fromCounts, fromControls, fromWeights, fromKnotsU, fromKnotsV, fromWindow, Leaves, large-controls, large-knots, to-counts, miscounted-controls, miscounted-weights, to-controls, not-finite, to-weights, refused-weights, to-knots, refused-u, to-knots-v, refused-v, to-window, refused-window, accepted-window}
 use Rattle.surface.proofs.checks.check.Statement.{statement}
 use Rattle.surface.proofs.checks.check.Tie as tie
 
@@ -53,13 +53,24 @@ returns-7 c = refused-weights _ (weights-left (c .before .before .before)) (sym 
 returns-8 : tie.Need-returns-8
 returns-8 c = refused-u _ _ (knots-left (c .before .before)) (c .before .check-knots .ensures) (c .if7 .taken)
 
+window-left : (c : tie.Else8) → Leaves fromWindow (lent (c .before .before .before .before .before .before .before .before .before .before .before .before .before .before .before))
+window-left c = to-window _ _ (knots-v-left (c .before .before)) (c .before .check-knots2 .ensures) (c .if8 .left)
+
 returns-9 : tie.Need-returns-9
-returns-9 c = refused _ _ (knots-v-left (c .before .before) ∙ sym (c .before .check-knots2 .ensures)) (c .if8 .taken)
+returns-9 c = refused-v _ _ (knots-v-left (c .before .before)) (c .before .check-knots2 .ensures) (c .if8 .taken)
+
+window-misfits-requires : tie.Need-window-misfits-requires
+window-misfits-requires c κs =
+    let u = c .before .before in
+    (sym (u .before .check-knots .ensures) ∙ u .if7 .left, sym (c .before .check-knots2 .ensures) ∙ c .if8 .left)
 
 returns-10 : tie.Need-returns-10
-returns-10 c =
-    accepted _ _ (sym (c .before .before .before .before .before .before .before .validate-weights .ensures) ∙ c .before .before .before .before .before .weighed .given .1)
-    (knots-v-left (c .before .before) ∙ sym (c .before .check-knots2 .ensures) ∙ c .if8 .left)
+returns-10 c = refused-window _ (window-left (c .before .before)) (sym (c .before .window-misfits .ensures) ∙ c .if9 .taken)
+
+returns-11 : tie.Need-returns-11
+returns-11 c =
+    let knots = c .before .before .before .before .before .before in
+    accepted-window _ (window-left (c .before .before)) _ (sym (knots .before .before .before .validate-weights .ensures) ∙ knots .before .weighed .given .1) (sym (c .before .window-misfits .ensures) ∙ c .if9 .left)
 
 pub check-spec : {M : Type 1} → statement M
 check-spec =
@@ -83,4 +94,6 @@ check-spec =
     returns-8
     (λ c κs. search needs)
     returns-9
-    returns-10)
+    window-misfits-requires
+    returns-10
+    returns-11)

@@ -2,8 +2,8 @@
 use mathlib.Core.Path.{sym, _∙_}
 use mathlib.Core.Bool.{true≢false}
 use mathlib.Core.Logic.{⊎-elim}
-use Rattle.grid.proofs.is_break.Statement.{statement}
-use Rattle.grid.proofs.is_break.Tie as tie
+use Rattle.grid.proofs.is_inner.Statement.{statement}
+use Rattle.grid.proofs.is_inner.Tie as tie
 
 returns : tie.Need-returns
 returns c =
@@ -15,5 +15,5 @@ returns-2 c =
     ⊎-elim (λ w. simp (c .if2 .left, w .0 .taken, sym (w .1) ∙ c .if2 .left)) (λ w. simp (c .if2 .left, w .0 .left))
     (c .before .if1 .came)
 
-pub is-break-spec : {M : Type 1} → statement M
-is-break-spec = tie.close (tie.spec returns returns-2)
+pub is-inner-spec : {M : Type 1} → statement M
+is-inner-spec = tie.close (tie.spec returns returns-2)
