@@ -236,6 +236,7 @@ fn lent(surface: &Surface) -> Lent<'_> {
         knots: [&surface.knots[0], &surface.knots[1]],
         controls: &surface.controls,
         weights: &surface.weights,
+        window: surface.window(),
     }
 }
 
@@ -340,7 +341,13 @@ impl Watched {
 
 fn bits<'a>(surface: &'a Surface, more: &'a [&'a [f64]]) -> impl Iterator<Item = u64> + 'a {
     let [ku, kv] = &surface.knots;
-    let lent = [&ku[..], kv, &surface.controls, &surface.weights];
+    let lent = [
+        &ku[..],
+        kv,
+        &surface.controls,
+        &surface.weights,
+        surface.window(),
+    ];
     lent.into_iter()
         .chain(more.iter().copied())
         .flatten()

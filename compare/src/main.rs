@@ -18,7 +18,7 @@ struct Kind {
     draw: fn(&mut Random) -> Vec<Case>,
 }
 
-const KINDS: [Kind; 11] = [
+const KINDS: [Kind; 12] = [
     Kind {
         name: "sets",
         draw: |r| SETS.iter().flat_map(|set| (set.cases)(r)).collect(),
@@ -62,6 +62,10 @@ const KINDS: [Kind; 11] = [
     Kind {
         name: "leads",
         draw: generate::leads,
+    },
+    Kind {
+        name: "windows",
+        draw: generate::windows,
     },
 ];
 

@@ -291,6 +291,7 @@ impl Words {
         for numbers in [u, v, &surface.controls, &surface.weights] {
             self.numbers(numbers);
         }
+        self.numbers(surface.window());
     }
 
     fn search(&mut self, search: &Search) {

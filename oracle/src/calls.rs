@@ -3,6 +3,7 @@ use crate::ends;
 use crate::refusals::{self, Refusal};
 use crate::source::pcurve::{self, Chart, Frame, Inverter, PcurveError, Work};
 use crate::source::recorded;
+use crate::window;
 use tessstep_curves::PlaneFrame;
 use tessstep_curves::spline::SplineLimits;
 use tessstep_math::{ModelSpace, NumericalTolerance, Point3, Vector3};
@@ -11,6 +12,8 @@ use tessstep_topology::SurfaceGeometry;
 
 pub type Point = [f64; 3];
 pub type Pair = [f64; 2];
+/// Lowest and highest parameter of u, and of v.
+pub type Window = [[f64; 2]; 2];
 
 /// A surface as it is lent to a call: counts, flags and flat numbers, all unchecked.
 #[derive(Clone, Debug)]
@@ -21,6 +24,8 @@ pub struct Surface {
     pub knots: [Vec<f64>; 2],
     pub controls: Vec<f64>,
     pub weights: Vec<f64>,
+    /// Where marks may be placed, if not in the whole knot domain.
+    pub window: Option<Window>,
 }
 
 /// What guides an inversion beside surface, mark and budget.
@@ -69,8 +74,12 @@ pub struct Edge {
     pub side: f64,
 }
 
-/// A surface that passed checks 1 to 6.
-pub struct Shell(SurfaceGeometry);
+/// A surface that passed checks 1 to 6 and 24.
+pub struct Shell {
+    geometry: SurfaceGeometry,
+    /// What runs are clamped to: the knot domain on a periodic axis and where there is no window.
+    window: Window,
+}
 
 impl Shell {
     pub fn new(surface: &Surface) -> Result<Self, Refusal> {
@@ -85,12 +94,30 @@ impl Shell {
             return Err(Refusal::Coordinate);
         }
         let nurbs = made?.flagged(surface.periodic);
-        Ok(Self(SurfaceGeometry::Nurbs(nurbs)))
+        let domain = nurbs.knot_vectors().map(|knots| knots.domain());
+        let lent = surface.window.unwrap_or(domain);
+        refusals::window(lent, domain, surface.periodic)?;
+        let kept = |k: usize| if surface.periodic[k] { domain } else { lent }[k];
+        Ok(Self {
+            geometry: SurfaceGeometry::Nurbs(nurbs),
+            window: [kept(0), kept(1)],
+        })
     }
 
     /// The knot domain of each axis.
-    pub fn domain(&self) -> [[f64; 2]; 2] {
+    pub fn domain(&self) -> Window {
         self.nurbs().knot_vectors().map(|knots| knots.domain())
+    }
+
+    /// What runs are clamped to.
+    pub fn window(&self) -> Window {
+        self.window
+    }
+
+    /// Whether the window has the bits of the knot domain, so that the source as published knows it.
+    pub fn is_whole(&self) -> bool {
+        let bits = |window: Window| window.map(|ends| ends.map(f64::to_bits));
+        bits(self.window) == bits(self.domain())
     }
 
     pub fn evaluate(&self, [u, v]: Pair) -> Result<Jet, Refusal> {
@@ -104,14 +131,18 @@ impl Shell {
     }
 
     /// `Inverter::invert` on input that passed check 7. The source as published answers; the
-    /// copy that records tells how its run ended, and must answer the same.
+    /// copy that records tells how its run ended, and must answer the same. In a window that the
+    /// source doesn't know the copy answers alone.
     pub fn invert(&self, mark: Point, search: &Search, budget: u64) -> Spent<Placed> {
-        let published = self.pair(mark, search, budget);
-        let copied = || self.recorded(mark, search, budget);
-        let (copied, taken) = ends::recorded(copied);
+        let (copied, taken) = ends::recorded(|| self.recorded(mark, search, budget));
+        let answered = if self.is_whole() {
+            self.published(mark, search, budget)
+        } else {
+            copied
+        };
         assert!(
-            bits(published) == bits(copied),
-            "the copy answers {copied:?} and not {published:?}"
+            bits(answered) == bits(copied),
+            "the copy answers {copied:?} and not {answered:?}"
         );
         let placed = |pair| {
             let taken = taken.expect("an answer is some run's");
@@ -123,34 +154,45 @@ impl Shell {
             }
         };
         Spent {
-            answer: published.answer.map(placed),
-            left: published.left,
+            answer: answered.answer.map(placed),
+            left: answered.left,
         }
     }
 
-    /// The pair of `invert`, by the source as published and nothing else.
+    /// The pair of `invert`, by the source as published and nothing else where it knows the window.
     pub fn pair(&self, mark: Point, search: &Search, budget: u64) -> Spent<Pair> {
+        if self.is_whole() {
+            self.published(mark, search, budget)
+        } else {
+            self.recorded(mark, search, budget)
+        }
+    }
+
+    /// The pair by the source as published, in the whole knot domain.
+    fn published(&self, mark: Point, search: &Search, budget: u64) -> Spent<Pair> {
         let chart = Chart::Nurbs(search.periods, Vec::new());
         let inverter = Inverter {
             chart: &chart,
-            surface: &self.0,
+            surface: &self.geometry,
             tolerance: search.tolerance,
         };
         spend(budget, |work| inverter.invert(mark, search.hint, work))
     }
 
-    /// `pair` by the copy that records, whose types are its own.
+    /// The pair by the copy that records, in the window. Its types are its own.
     fn recorded(&self, mark: Point, search: &Search, budget: u64) -> Spent<Pair> {
         let chart = recorded::Chart::Nurbs(search.periods, Vec::new());
         let inverter = recorded::Inverter {
             chart: &chart,
-            surface: &self.0,
+            surface: &self.geometry,
             tolerance: search.tolerance,
         };
         let mut work = recorded::Work {
             remaining: budget as usize,
         };
-        let answer = inverter.invert(mark, search.hint, &mut work);
+        let answer = window::within(self.window, || {
+            inverter.invert(mark, search.hint, &mut work)
+        });
         Spent {
             answer: answer.map_err(refusals::of_recorded_work),
             left: work.remaining as u64,
@@ -160,7 +202,7 @@ impl Shell {
     fn derivative(&self, uv: Pair, vector: Point, budget: u64) -> Spent<Pair> {
         let inverter = Inverter {
             chart: &Chart::Nurbs([None; 2], Vec::new()),
-            surface: &self.0,
+            surface: &self.geometry,
             tolerance: 0.,
         };
         spend(budget, |work| inverter.image(uv, vector, work))
@@ -179,7 +221,7 @@ impl Shell {
     }
 
     fn nurbs(&self) -> &NurbsSurface<ModelSpace> {
-        match &self.0 {
+        match &self.geometry {
             SurfaceGeometry::Nurbs(nurbs) => nurbs,
             SurfaceGeometry::Analytic(_) => unreachable!("a shell is a NURBS surface"),
         }
@@ -317,6 +359,7 @@ impl Surface {
             knots: [knots(), knots()],
             controls: vec![0., 0., 0., 0., 1., 0., 1., 0., 0., 1., 1., 0.],
             weights: vec![1.; 4],
+            window: None,
         }
     }
 
@@ -326,5 +369,18 @@ impl Surface {
             controls: vec![0.; 12],
             ..Self::square()
         }
+    }
+
+    /// The surface in another window.
+    pub fn within(&self, window: Window) -> Self {
+        Self {
+            window: Some(window),
+            ..self.clone()
+        }
+    }
+
+    /// The window's four numbers, or none.
+    pub fn window(&self) -> &[f64] {
+        self.window.as_ref().map_or(&[], |ends| ends.as_flattened())
     }
 }

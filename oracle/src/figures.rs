@@ -1,6 +1,8 @@
-//! The figures of document 01 and of TRAPS.md that the source can answer.
+//! The figures of document 01 and of TRAPS.md that the source can answer, and figures of windows,
+//! worked out by hand.
 use crate::calls::{
-    Pair, Placed, Point, Search, Surface, derivative, evaluate, invert, nurbs_singular, price,
+    Pair, Placed, Point, Search, Surface, Window, derivative, evaluate, invert, nurbs_singular,
+    price,
 };
 use crate::generate::ends::{Known, known};
 use crate::generate::lead;
@@ -45,6 +47,9 @@ pub fn all() -> Vec<Figure> {
         traps(),
         ends(),
         rows(),
+        windows(),
+        window_checks(),
+        window_zeros(),
     ];
     parts.into_iter().flatten().collect()
 }
@@ -563,4 +568,207 @@ fn rows() -> Vec<Figure> {
         )
     };
     lead::known().into_iter().map(figure_of).collect()
+}
+
+const UNIT: Pair = [0., 1.];
+/// A strip of the square.
+const STRIP: Window = [[0.25, 0.75], UNIT];
+
+fn windows() -> Vec<Figure> {
+    let strip = &Surface::square().within(STRIP);
+    let far = [3., 4., 0.];
+    let values = |distinct, low, high| {
+        let window = [[low, high], UNIT];
+        (price(&dense_dot([distinct, 2]).within(window), far, &FREE) - 2) / 9
+    };
+    let whole = |surface: &Surface| priced(&surface.within([UNIT; 2]), MARK, &FREE);
+    vec![
+        figure(
+            "the strip u from 1/4 to 3/4 of the square: a mark left of it, on its edge",
+            priced(strip, [0., 0.5, 0.], &FREE),
+            // 81 points of the grid, a run of one point and five of two.
+            (Ok([0.25, 0.5]), 92),
+        ),
+        figure(
+            "the same with a hint left of it, within the tolerance",
+            priced(strip, [0., 0.5, 0.], &hinted([0., 0.5], 0.25)),
+            (Ok([0.25, 0.5]), 1),
+        ),
+        figure(
+            "evaluate and derivative outside of the strip",
+            (
+                evaluate(strip, [0.125, 0.5]).map(|jet| jet.point),
+                derivative(strip, [0.125, 0.5], [3., 5., 7.], 1).answer,
+            ),
+            (Ok([0.125, 0.5, 0.]), Ok([3., 5.])),
+        ),
+        figure(
+            "edges of the strip: those of the square",
+            nurbs_singular(strip, 0.5).map(|edges| edges.iter().map(|edge| edge.value).collect()),
+            Ok(vec![0., 1., 0., 1.]),
+        ),
+        figure(
+            "the strip of the dot: a step from its corner toward its centre",
+            priced(&Surface::dot().within(STRIP), far, &FREE),
+            (Ok([0.25 + 1e-6 * 0.25, 1e-6 * 0.5]), 83),
+        ),
+        figure(
+            "a window inside one span of 25 distinct knots, from knot to knot, over three knots",
+            [(3.25, 3.5), (3., 4.), (2.5, 5.5)].map(|(low, high)| values(25, low, high)),
+            [9, 9, 33],
+        ),
+        figure(
+            "24, 25 and 26 breaks of 48 distinct knots, all, and the last 25 knots",
+            [(0.5, 22.5), (0.5, 23.5), (0.5, 24.5), (0., 47.), (23., 47.)]
+                .map(|(low, high)| values(48, low, high)),
+            [185, 97, 105, 193, 97],
+        ),
+        figure(
+            "the whole square as a window, and the dot",
+            [whole(&Surface::square()), whole(&Surface::dot())],
+            [
+                priced(&Surface::square(), MARK, &FREE),
+                priced(&Surface::dot(), MARK, &FREE),
+            ],
+        ),
+    ]
+}
+
+fn window_checks() -> Vec<Figure> {
+    let number = |surface: &Surface| evaluate(surface, [0.5; 2]).err();
+    let in_u = |ends: Pair| number(&Surface::square().within([ends, UNIT]));
+    let in_v = |ends: Pair| number(&Surface::square().within([UNIT, ends]));
+    let flagged = |ends: Pair| {
+        number(&Surface {
+            periodic: [true, false],
+            ..Surface::square().within([ends, UNIT])
+        })
+    };
+    let (nan, infinity) = (f64::NAN, f64::INFINITY);
+    let lost = [[nan, 1.], [0., nan], [-infinity, 1.], [0., infinity]];
+    let flat = [[0.5, 0.5], [0.75, 0.25], [-0., 0.]];
+    let beyond = [[-LEAST, 1.], [0., 1.0_f64.next_up()]];
+    let narrower = [[LEAST, 1.], [0., 1.0_f64.next_down()], [0.25, 0.75]];
+    let upside_down = &Surface::square().within([[1., 0.], UNIT]);
+    let mut weightless = upside_down.clone();
+    weightless.weights[0] = 0.;
+    let mut reversed = upside_down.clone();
+    reversed.knots[1].reverse();
+    let row_at = |answers: &mut [f64]| {
+        let ended = row(upside_down, &MARK, &FREE, 9, answers, &mut [7; 2]);
+        (ended.refused, ended.left)
+    };
+    let job = Job {
+        surface: upside_down.clone(),
+        tolerance: -1.,
+        budget: 9,
+        marks: MARK.to_vec(),
+    };
+    let refused = Some(Refusal::Window);
+    let lost_mark = invert(upside_down, [nan; 3], &FREE, 9);
+    vec![
+        figure("a window not finite", lost.map(in_u), [refused; 4]),
+        figure("a window not finite, in v", lost.map(in_v), [refused; 4]),
+        figure("a window not rising", flat.map(in_u), [refused; 3]),
+        figure("a window not rising, in v", flat.map(in_v), [refused; 3]),
+        figure(
+            "a window a float beyond the domain",
+            beyond.map(in_u),
+            [refused; 2],
+        ),
+        figure(
+            "a window a float beyond the domain, in v",
+            beyond.map(in_v),
+            [refused; 2],
+        ),
+        figure(
+            "a window narrower than a periodic axis",
+            narrower.map(flagged),
+            [refused; 3],
+        ),
+        figure("the same without the flag", narrower.map(in_u), [None; 3]),
+        figure(
+            "a window from -0, and on a periodic axis",
+            [in_u([-0., 1.]), flagged([-0., 1.])],
+            [None; 2],
+        ),
+        figure(
+            "4 and 6 before 24",
+            [number(&weightless), number(&reversed)],
+            [Some(Refusal::Weights), Some(Refusal::Knots)],
+        ),
+        figure(
+            "24 before the 7 of a mark, of a vector and of a tolerance",
+            (
+                (lost_mark.answer.err(), lost_mark.left),
+                derivative(upside_down, [0.5; 2], [nan; 3], 9).answer.err(),
+                nurbs_singular(upside_down, -1.).err(),
+            ),
+            ((refused, 9), refused, refused),
+        ),
+        figure(
+            "24 in a row, after 11",
+            (row_at(&mut [7.; 2]), row_at(&mut [7.; 1])),
+            (
+                (Some((Refusal::Window, 0)), 9),
+                (Some((Refusal::Row, 0)), 9),
+            ),
+        ),
+        figure(
+            "24 in a job whose tolerance is below 0",
+            print(&job.write()),
+            "marks 1\nrefused 24 at 0\n".to_string(),
+        ),
+    ]
+}
+
+/// Traps 27 and 28.
+fn window_zeros() -> Vec<Figure> {
+    let far = &hinted([-1., 0.5], 1.);
+    let left = [-1., 0.5, 0.];
+    let flagged = Surface {
+        periodic: [true, false],
+        ..Surface::square().within([[-0., 1.], UNIT])
+    };
+    // The point at (u, v) is (u + 1, v, 0).
+    let up_to = |zero: f64, end: f64| {
+        let mut surface = Surface::square().within([[-1., end], UNIT]);
+        surface.knots[0] = vec![-1., -1., zero, zero];
+        surface
+    };
+    let (right, beyond) = ([2., 0.5, 0.], &hinted([1., 0.5], 1.));
+    let pair = |surface: &Surface, mark, search| priced(surface, mark, search).0;
+    vec![
+        figure(
+            "the square from -0: a run clamped at its edge",
+            pair(&Surface::square().within([[-0., 1.], UNIT]), left, far),
+            Ok([-0., 0.5]),
+        ),
+        figure(
+            "the square from 0: the same",
+            pair(&Surface::square().within([UNIT; 2]), left, far),
+            Ok([0., 0.5]),
+        ),
+        figure(
+            "the square from -0 with the flag: as without a window",
+            pair(&flagged, MARK, &FREE),
+            Ok([0.25, 0.5]),
+        ),
+        figure(
+            "a domain up to 0, a window up to -0: the grid has the domain's end, a run the window's",
+            [
+                pair(&up_to(0., -0.), right, &FREE),
+                pair(&up_to(0., -0.), right, beyond),
+            ],
+            [Ok([0., 0.5]), Ok([-0., 0.5])],
+        ),
+        figure(
+            "a domain up to -0, a window up to 0",
+            [
+                pair(&up_to(-0., 0.), right, &FREE),
+                pair(&up_to(-0., 0.), right, beyond),
+            ],
+            [Ok([-0., 0.5]), Ok([0., 0.5])],
+        ),
+    ]
 }

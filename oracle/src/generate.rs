@@ -8,6 +8,7 @@ pub(crate) mod lead;
 mod random;
 mod surfaces;
 mod traps;
+mod window;
 
 use crate::calls::{Pair, Point, Search, Surface};
 use crate::small::{Axis, KnotSide};
@@ -17,6 +18,7 @@ pub use cases::{derivative, evaluate, inversion, plane, row, singular, small_inv
 pub use jobs::job;
 pub use lead::leads;
 pub use random::Random;
+pub use window::windows;
 
 /// An input of one call.
 #[derive(Clone, Debug)]
@@ -68,9 +70,9 @@ pub struct Set {
     pub cases: fn(&mut Random) -> Vec<Case>,
 }
 
-/// The sets; the cases that TRAPS.md lists come first in each. Those at the brink of a limit and
-/// those of marks that lead come last, each from a stream of its own, so that what is drawn after
-/// them stays as it is.
+/// The sets; the cases that TRAPS.md lists come first in each. Those at the brink of a limit,
+/// those of marks that lead and those of windows come last, each from a stream of its own, so that
+/// what is drawn after them stays as it is.
 pub const SETS: [Set; 6] = [
     Set {
         name: "spline",
@@ -78,7 +80,14 @@ pub const SETS: [Set; 6] = [
     },
     Set {
         name: "surface",
-        cases: |r| [traps::surface(), cases::surfaces(r)].concat(),
+        cases: |r| {
+            [
+                traps::surface(),
+                cases::surfaces(r),
+                window::evaluations(&mut r.beside()),
+            ]
+            .concat()
+        },
     },
     Set {
         name: "inversion",
@@ -87,6 +96,7 @@ pub const SETS: [Set; 6] = [
                 traps::inversion(),
                 cases::inversions(r),
                 brink::inversions(&mut r.apart()),
+                window::inversions(&mut r.beside()),
             ]
             .concat()
         },
@@ -98,6 +108,7 @@ pub const SETS: [Set; 6] = [
                 traps::calls(),
                 cases::calls(r),
                 brink::calls(&mut r.apart()),
+                window::calls(&mut r.beside()),
             ]
             .concat()
         },
@@ -110,12 +121,21 @@ pub const SETS: [Set; 6] = [
                 cases::rows(r),
                 brink::rows(&mut r.apart()),
                 lead::rows(&mut r.aside()),
+                window::rows(&mut r.beside()),
             ]
             .concat()
         },
     },
     Set {
         name: "job",
-        cases: |r| [traps::job(), jobs::jobs(r), lead::jobs(&mut r.aside())].concat(),
+        cases: |r| {
+            [
+                traps::job(),
+                jobs::jobs(r),
+                lead::jobs(&mut r.aside()),
+                window::jobs(&mut r.beside()),
+            ]
+            .concat()
+        },
     },
 ];

@@ -66,19 +66,24 @@ fn read_surface(rest: &mut &[u8]) -> Option<Surface> {
     let mut count = || Some(usize::from(u16::from_le_bytes(take(rest)?)));
     let shape = [count()?, count()?];
     let [flags] = take::<1>(rest)?;
-    if flags > 3 {
+    if flags > 7 {
         return None;
     }
     let [u, v] = [0, 1].map(|k| shape[k] + degrees[k] + 1);
     let total = shape[0] * shape[1];
-    Some(Surface {
+    let mut surface = Surface {
         degrees,
         shape,
         periodic: [flags & 1 != 0, flags & 2 != 0],
         knots: [numbers(rest, u)?, numbers(rest, v)?],
         controls: numbers(rest, 3 * total)?,
         weights: numbers(rest, total)?,
-    })
+        window: None,
+    };
+    if flags & 4 != 0 {
+        surface.window = Some([pair(rest)?, pair(rest)?]);
+    }
+    Some(surface)
 }
 
 fn take<const N: usize>(rest: &mut &[u8]) -> Option<[u8; N]> {
@@ -93,6 +98,10 @@ fn mark(rest: &mut &[u8], expected: &[u8; 2]) -> Option<()> {
 
 fn number(rest: &mut &[u8]) -> Option<f64> {
     Some(f64::from_le_bytes(take(rest)?))
+}
+
+fn pair(rest: &mut &[u8]) -> Option<[f64; 2]> {
+    Some([number(rest)?, number(rest)?])
 }
 
 fn numbers(rest: &mut &[u8], count: usize) -> Option<Vec<f64>> {
@@ -112,11 +121,13 @@ impl Job {
                 .map(|count| (count as u16).to_le_bytes())
                 .as_flattened(),
         );
-        out.push(u8::from(surface.periodic[0]) + 2 * u8::from(surface.periodic[1]));
+        let [u, v] = surface.periodic.map(u8::from);
+        out.push(u + 2 * v + 4 * u8::from(surface.window.is_some()));
         let [u, v] = &surface.knots;
         for numbers in [u, v, &surface.controls, &surface.weights] {
             extend(&mut out, numbers);
         }
+        extend(&mut out, surface.window());
         out.extend(b"TL");
         extend(&mut out, &[self.tolerance]);
         out.extend(self.budget.to_le_bytes());

@@ -11,6 +11,7 @@ pub mod refusals;
 pub mod replay;
 pub mod row;
 pub mod small;
+mod window;
 
 mod source {
     include!(concat!(env!("OUT_DIR"), "/root.rs"));

@@ -1,4 +1,5 @@
 //! Document 01's refusals and the source's errors that stand behind them.
+use crate::calls::Window;
 use crate::source::{pcurve, recorded};
 use tessstep_curves::spline::SplineError;
 use tessstep_surfaces::Error;
@@ -18,6 +19,7 @@ pub enum Refusal {
     Singular = 10,
     Row = 11,
     Job = 12,
+    Window = 24,
 }
 impl Refusal {
     pub fn number(self) -> u64 {
@@ -63,6 +65,21 @@ pub(crate) fn of_recorded_work(error: recorded::PcurveError) -> Refusal {
         recorded::PcurveError::Limit => Refusal::Units,
         recorded::PcurveError::Geometry => Refusal::Evaluation,
         other => unreachable!("no inversion gives {other:?}"),
+    }
+}
+
+/// Check 24 on a window, of a surface with these knot domains and flags.
+pub(crate) fn window(window: Window, domain: Window, periodic: [bool; 2]) -> Result<(), Refusal> {
+    let sound = |k: usize| {
+        let ([low, high], [lowest, highest]) = (window[k], domain[k]);
+        let finite = low.is_finite() && high.is_finite();
+        let within = lowest <= low && low < high && high <= highest;
+        finite && within && (!periodic[k] || (low == lowest && high == highest))
+    };
+    if sound(0) && sound(1) {
+        Ok(())
+    } else {
+        Err(Refusal::Window)
     }
 }
 

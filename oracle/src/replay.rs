@@ -1,6 +1,6 @@
 //! Stored records read back, and their inputs answered again.
 use crate::answers::{KINDS, Record};
-use crate::calls::{Search, Surface};
+use crate::calls::{Search, Surface, Window};
 use crate::generate::{Case, Inversion, Row};
 use crate::small::{Axis, KnotSide};
 use std::collections::BTreeMap;
@@ -118,6 +118,15 @@ impl Reader<'_> {
             knots: [self.numbers(), self.numbers()],
             controls: self.numbers(),
             weights: self.numbers(),
+            window: self.window(),
+        }
+    }
+
+    fn window(&mut self) -> Option<Window> {
+        match self.count() {
+            0 => None,
+            4 => Some([self.floats(), self.floats()]),
+            other => panic!("no window has {other} numbers"),
         }
     }
 

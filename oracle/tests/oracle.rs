@@ -1,7 +1,7 @@
 use oracle::answers::{KINDS, records};
 use oracle::calls::{Placed, Point, Search, Shell, Surface, invert, price};
 use oracle::figures;
-use oracle::generate::{Case, Random, Row, SETS, brinks, inversion, leads, row};
+use oracle::generate::{Case, Random, Row, SETS, brinks, inversion, leads, row, windows};
 use oracle::job::{Job, MOST_BYTES, print};
 use oracle::misses::{kinds, measure};
 use oracle::refusals::Refusal;
@@ -55,10 +55,11 @@ fn damaged_jobs_are_refused() {
     }
     assert_eq!(print(&[&file[..], &[0]].concat()), malformed);
     let records = [0, 1, 201, 202, 219, 220, 245, 246];
-    for (place, value) in records
-        .map(|place| (place, b'?'))
-        .into_iter()
-        .chain([(8, 4)])
+    for (place, value) in
+        records
+            .map(|place| (place, b'?'))
+            .into_iter()
+            .chain([(8, 4), (8, 8), (8, 255)])
     {
         let mut other = file.clone();
         other[place] = value;
@@ -150,12 +151,14 @@ fn fits(case: &Row) -> bool {
     case.marks.len().is_multiple_of(3) && room >= case.marks.len() / 3 * 2
 }
 
-/// Rows of any kind, and rows of marks that lead or are lost.
+/// Rows of any kind, rows of marks that lead or are lost, and rows in windows.
 fn drawn_rows(seed: u64) -> Vec<Row> {
     let mut random = Random::new(seed);
     let mut rows: Vec<Row> = (0..1000).map(|_| row(&mut random)).collect();
     let leading = (0..500).flat_map(|_| leads(&mut random));
     rows.extend(leading.filter_map(as_row));
+    let within = (0..300).flat_map(|_| windows(&mut random));
+    rows.extend(within.filter_map(as_row));
     rows
 }
 

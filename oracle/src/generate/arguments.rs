@@ -19,6 +19,10 @@ impl Ground {
         self.shell.as_ref().map_or([[0., 1.]; 2], Shell::domain)
     }
 
+    pub fn window(&self) -> [[f64; 2]; 2] {
+        self.shell.as_ref().map_or([[0., 1.]; 2], Shell::window)
+    }
+
     /// The point at a pair, if there is one.
     pub fn point(&self, pair: Pair) -> Option<Point> {
         Some(self.shell.as_ref()?.evaluate(pair).ok()?.point)
@@ -87,7 +91,7 @@ impl Ground {
     }
 
     /// The distance at the end of the hint's run, or its neighbour on either side.
-    fn reached(&self, r: &mut Random, mark: Point, hint: Option<Pair>) -> Option<f64> {
+    pub fn reached(&self, r: &mut Random, mark: Point, hint: Option<Pair>) -> Option<f64> {
         let any = Search {
             hint: Some(hint?),
             tolerance: f64::MAX,
@@ -126,7 +130,7 @@ pub fn parameter(r: &mut Random, [lo, hi]: [f64; 2], knots: &[f64]) -> f64 {
     }
 }
 
-fn inside(r: &mut Random, [lo, hi]: [f64; 2]) -> f64 {
+pub fn inside(r: &mut Random, [lo, hi]: [f64; 2]) -> f64 {
     let part = if r.percent(50) {
         f64::from(r.between(0, 16)) / 16.
     } else {
@@ -136,7 +140,7 @@ fn inside(r: &mut Random, [lo, hi]: [f64; 2]) -> f64 {
 }
 
 /// A point moved by a part of its size.
-fn off(r: &mut Random, point: Point) -> Point {
+pub fn off(r: &mut Random, point: Point) -> Point {
     let by = r.pick(&[0., 0., 1e-15, 1e-9, 0.03, 0.3, 1.]);
     let size = point.iter().fold(0.125, |size: f64, x| size.max(x.abs()));
     point.map(|x| x + by * size * r.signed())

@@ -141,6 +141,7 @@ fn ordinary(r: &mut Random) -> Surface {
         knots: [0, 1].map(|k| knots(r, degrees[k], spans[k])),
         controls: net(r, shape).as_flattened().to_vec(),
         weights,
+        window: None,
     }
 }
 

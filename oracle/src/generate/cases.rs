@@ -156,13 +156,16 @@ pub fn inversion_on(r: &mut Random, surface: Surface) -> Inversion {
     let ground = Ground::new(surface);
     let mark = ground.mark(r);
     let search = ground.search(r, mark);
-    let price = price(&ground.surface, mark, &search);
     Inversion {
+        budget: budget_on(r, &ground.surface, mark, &search),
         surface: ground.surface,
         mark,
         search,
-        budget: budget(r, price),
     }
+}
+
+pub fn budget_on(r: &mut Random, surface: &Surface, mark: Point, search: &Search) -> u64 {
+    budget(r, price(surface, mark, search))
 }
 
 pub fn plane(r: &mut Random) -> Case {

@@ -58,7 +58,7 @@ pub fn job_of(r: &mut Random, surface: Surface, marks: Vec<f64>, tolerance: f64)
 }
 
 /// A fault that leaves the file well-formed.
-fn fault(r: &mut Random, surface: &mut Surface) {
+pub fn fault(r: &mut Random, surface: &mut Surface) {
     let k = r.below(2);
     let knots = &mut surface.knots[k];
     match r.below(5) {
@@ -78,7 +78,7 @@ fn fault(r: &mut Random, surface: &mut Surface) {
     }
 }
 
-fn damaged(r: &mut Random, mut file: Vec<u8>) -> Vec<u8> {
+pub fn damaged(r: &mut Random, mut file: Vec<u8>) -> Vec<u8> {
     let place = r.below(file.len());
     let early = r.below(file.len().min(12));
     match r.below(10) {

@@ -19,6 +19,11 @@ impl Random {
         Self(!Self(self.0).word())
     }
 
+    /// One more stream; drawing from it leaves this one where it is.
+    pub fn beside(&self) -> Self {
+        self.apart().aside()
+    }
+
     pub fn word(&mut self) -> u64 {
         self.0 = self.0.wrapping_add(0x9e37_79b9_7f4a_7c15);
         let z = (self.0 ^ (self.0 >> 30)).wrapping_mul(0xbf58_476d_1ce4_e5b9);

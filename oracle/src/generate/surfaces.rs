@@ -31,6 +31,15 @@ pub fn sound(r: &mut Random) -> Surface {
     with_axes(r, axes)
 }
 
+/// A surface with an axis of 23 to 97 distinct knots.
+pub fn dense_surface(r: &mut Random) -> Surface {
+    let mut axes = [dense(r), clamped(r, 1, 2)];
+    if r.percent(50) {
+        axes.reverse();
+    }
+    with_axes(r, axes)
+}
+
 /// A surface of few controls whose grid is small and which passes the checks.
 pub fn small(r: &mut Random) -> Surface {
     let axes = [0; 2].map(|_| {
@@ -63,6 +72,7 @@ fn with_axes(r: &mut Random, [u, v]: [Axis; 2]) -> Surface {
         knots: [u.knots, v.knots],
         controls: controls(r, shape),
         weights: weights(r, shape[0] * shape[1]),
+        window: None,
     }
 }
 
@@ -264,7 +274,7 @@ pub fn weights(r: &mut Random, count: usize) -> Vec<f64> {
 }
 
 /// Puts a number from the rim of the format, or beyond it, in one place.
-fn spoil(r: &mut Random, surface: &mut Surface) {
+pub fn spoil(r: &mut Random, surface: &mut Surface) {
     let [u, v] = &mut surface.knots;
     let numbers = match r.below(4) {
         0 => u,
@@ -279,7 +289,7 @@ fn spoil(r: &mut Random, surface: &mut Surface) {
 }
 
 /// Changes a count, or what is lent, so that they no longer fit.
-fn misfit(r: &mut Random, surface: &mut Surface) {
+pub fn misfit(r: &mut Random, surface: &mut Surface) {
     let k = r.below(2);
     let [u, v] = &mut surface.knots;
     match r.below(12) {

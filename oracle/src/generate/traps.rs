@@ -87,7 +87,7 @@ pub fn parabola() -> Surface {
 }
 
 /// A degree 1 surface with these counts of distinct knots on a wavy net.
-fn dense(shape: [usize; 2]) -> Surface {
+pub fn dense(shape: [usize; 2]) -> Surface {
     let knots = shape.map(|count| {
         let last = count - 1;
         let inner = (0..count).map(|i| i as f64 / last as f64);
@@ -223,7 +223,7 @@ fn counts() -> [Surface; 9] {
 }
 
 /// A fault for each of the numbers 1 to 6, those of an axis for u and for v.
-const FAULTS: [fn(&mut Surface); 8] = [
+pub const FAULTS: [fn(&mut Surface); 8] = [
     |surface| surface.shape = [1 << 32; 2],
     |surface| surface.weights.push(1.),
     |surface| surface.controls[4] = f64::NAN,
@@ -234,7 +234,7 @@ const FAULTS: [fn(&mut Surface); 8] = [
     |surface| surface.knots[1][0] = f64::NAN,
 ];
 
-fn with_faults(faults: &[fn(&mut Surface)]) -> Surface {
+pub fn with_faults(faults: &[fn(&mut Surface)]) -> Surface {
     let mut surface = Surface::square();
     faults.iter().for_each(|fault| fault(&mut surface));
     surface

@@ -42,6 +42,7 @@ fn net(
         knots: [0, 1].map(|axis| clamped(degrees[axis], shape[axis])),
         controls: points.as_flattened().to_vec(),
         weights,
+        window: None,
     }
 }
 
