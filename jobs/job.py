@@ -3,7 +3,7 @@
 
     job.py pack   < TEXT     > JOB      a job in words, as the file that the placing program reads
     job.py unpack < JOB      > TEXT     and back
-    job.py read   < PRINTOUT            a whole printout, with its numbers in decimal and its ends in words
+    job.py read   < PRINTOUT            a whole printout, with its numbers in decimal, its ends and refusal in words
     job.py check  JOB PRINTOUT          how each pair's run ended, and how far its surface point lies from its mark
 
 Status 0: all is well. 1: the input is not what it should be; a printout is whole where it has
@@ -22,6 +22,7 @@ The words of a job, in this order; a line that begins with # is left out:
     knots_u 0 0 1 1                 controls + degree + 1 of them
     knots_v 0 0 1 1
     control 0 0 0 weight 1          a line each, u slowest
+    window 0.25 0.75 0 1            lowest u, highest u, lowest v, highest v; or no such line
     tolerance 0.5
     budget 1000
     mark 0.25 0.5 0.75              none or more
@@ -43,8 +44,27 @@ from typing import NamedTuple
 
 MOST_BYTES = 32768
 PERIODIC = {"no": 0, "yes": 1}
+WINDOW = 4
 REFUSED, FURTHER = 3, 4
 ENDS = ("unchanged", "next point further", "small step", "second singular point", "32 rounds")
+REFUSALS = {
+    1: "there are more than 100,000 controls or 100,034 knots, or a count is out of range",
+    2: "the counts of controls or weights are not the product of the shape's two counts",
+    3: "a control's coordinate is not finite",
+    4: "there are no weights, or one is not finite, not above 0, or 0 after division by the largest",
+    5: "a degree is 0 or above 16",
+    6: "the knots of an axis are not right: their count, their order, more than degree + 1 equal ones, "
+       "a domain without width, or a number that is not finite",
+    7: "the mark, vector, frame, hint, tolerance or a period is not finite, the tolerance is below 0, "
+       "or a period is not above 0",
+    8: "no unit of the budget was left for an evaluation",
+    9: "an evaluation refused: the parameter lies outside, a number is not finite, or the weight sum is not above 0",
+    10: "the two derivatives of the surface there don't span a plane",
+    11: "the marks are not in threes, or there are under two numbers a mark for the answers, or under two bytes a mark "
+        "for the ends",
+    12: "the job file is malformed",
+    24: "the window is not finite, not rising or beyond the domain, or narrower than it on a periodic axis",
+}
 
 
 class Malformed(Exception):
@@ -52,7 +72,8 @@ class Malformed(Exception):
 
 
 class Job(NamedTuple):
-    """A job file. A float is its eight bytes."""
+    """A job file. A float is its eight bytes. The flags are those of the periodic axes; a window is
+    four floats, or none."""
 
     degrees: tuple
     counts: tuple
@@ -60,6 +81,7 @@ class Job(NamedTuple):
     knots: tuple
     coordinates: list
     weights: list
+    window: list
     tolerance: bytes
     budget: int
     marks: list
@@ -138,19 +160,21 @@ def pack(text):
     lines = Lines(text)
     degrees = lines.take("degrees", 2)
     counts = lines.take("controls", 2)
-    flags = lines.take("periodic", 2)
-    if not set(flags) <= set(PERIODIC):
+    periodic = lines.take("periodic", 2)
+    if not set(periodic) <= set(PERIODIC):
         raise Malformed("`periodic` takes yes or no, twice")
     out = [b"SF", *(whole(d, 1) for d in degrees), *(whole(n, 2) for n in counts)]
-    out.append(bytes([PERIODIC[flags[0]] + 2 * PERIODIC[flags[1]]]))
+    numbers = []
     for axis, name in enumerate(["knots_u", "knots_v"]):
-        knots = lines.take(name, int(counts[axis]) + int(degrees[axis]) + 1)
-        out += map(number, knots)
+        numbers += lines.take(name, int(counts[axis]) + int(degrees[axis]) + 1)
     net = [lines.take("control", 5) for _ in range(int(counts[0]) * int(counts[1]))]
     if any(line[3] != "weight" for line in net):
         raise Malformed("a control is three numbers, `weight` and a number")
-    out += [number(x) for line in net for x in line[:3]]
-    out += [number(line[4]) for line in net]
+    numbers += [x for line in net for x in line[:3]]
+    numbers += [line[4] for line in net]
+    window = lines.take("window", 4) if lines.next_is("window") else []
+    out.append(bytes([PERIODIC[periodic[0]] + 2 * PERIODIC[periodic[1]] + (WINDOW if window else 0)]))
+    out += map(number, numbers + window)
     out += [b"TL", number(*lines.take("tolerance", 1)), whole(*lines.take("budget", 1), 8)]
     while lines.next_is("mark"):
         out += [b"MK", *map(number, lines.take("mark", 3))]
@@ -193,17 +217,18 @@ def parse(data):
     rest = Bytes(data)
     rest.mark(b"SF")
     du, dv, nu, nv, flags = struct.unpack("<BBHHB", rest.take(7))
-    if flags > 3:
+    if flags >= 2 * WINDOW:
         raise Malformed(f"the flags are {flags}")
     knots = rest.numbers(nu + du + 1), rest.numbers(nv + dv + 1)
     coordinates, weights = rest.numbers(3 * nu * nv), rest.numbers(nu * nv)
+    window = rest.numbers(4) if flags & WINDOW else []
     rest.mark(b"TL")
     (tolerance,), budget = rest.numbers(1), int.from_bytes(rest.take(8), "little")
     marks = []
     while rest.at < len(data):
         rest.mark(b"MK")
         marks.append(rest.numbers(3))
-    return Job((du, dv), (nu, nv), flags, knots, coordinates, weights, tolerance, budget, marks)
+    return Job((du, dv), (nu, nv), flags % WINDOW, knots, coordinates, weights, window, tolerance, budget, marks)
 
 
 def unpack(data):
@@ -218,6 +243,7 @@ def unpack(data):
     ]
     for i, weight in enumerate(job.weights):
         out.append(["control", *map(word, job.coordinates[3 * i : 3 * i + 3]), "weight", word(weight)])
+    out += [["window", *map(word, job.window)]] if job.window else []
     out += [["tolerance", word(job.tolerance)], ["budget", str(job.budget)]]
     out += [["mark", *map(word, mark)] for mark in job.marks]
     return "".join(" ".join(words) + "\n" for words in out)
@@ -276,7 +302,7 @@ def read(text):
     printout = whole_printout(text)
     lines = [] if printout.marks is None else [f"marks {printout.marks}"]
     lines += [f"u {p.u!r} v {p.v!r} left {p.left} end {ENDS[p.end]}" for p in printout.pairs]
-    lines += refusal_line(printout)
+    lines += [f"{line}: {REFUSALS.get(printout.refusal[0], 'no refusal has this number')}" for line in refusal_line(printout)]
     return "".join(line + "\n" for line in lines), REFUSED if printout.refusal else 0
 
 
@@ -306,7 +332,7 @@ def evaluator(job):
         return array, ctypes.c_size_t(len(numbers))
 
     surface = [ctypes.c_size_t(n) for n in job.degrees + job.counts] + [ctypes.c_uint64(job.flags)]
-    for numbers in (*job.knots, job.coordinates, job.weights):
+    for numbers in (*job.knots, job.coordinates, job.weights, job.window):
         surface += lent(numbers)
 
     def at(u, v):

@@ -193,6 +193,95 @@ class Program(unittest.TestCase):
         self.assertEqual((wrote, said), (b"", f"place {version}\nusage: place < JOB > PRINTOUT\n"))
 
 
+class Windows(unittest.TestCase):
+    """The square through a window."""
+
+    BESIDE = "mark 0.9 0.5 0.75\n"
+
+    def text(self, window, periodic="no no", marks=BESIDE):
+        text = TEXT[: TEXT.index("\nmark") + 1].replace("periodic no no", f"periodic {periodic}")
+        return text.replace("tolerance", f"window {window}\ntolerance") + marks
+
+    def placed(self, *arguments, **named):
+        wrote, said = place_bytes(job.pack(self.text(*arguments, **named)))
+        self.assertEqual(said, "")
+        return [(p.u, p.v, p.left, p.end) for p in job.whole_printout(wrote.decode()).pairs]
+
+    def test_four_numbers_follow_the_weights(self):
+        plain, file = job.pack(TEXT), job.pack(TEXT.replace("tolerance", "window 0.25 0.75 0 1\ntolerance"))
+        at = plain.index(b"TL")
+        window = struct.pack("<4d", 0.25, 0.75, 0, 1)
+        self.assertEqual(file, plain[:8] + b"\x04" + plain[9:at] + window + plain[at:])
+
+    def test_there_and_back(self):
+        for periodic, flags in (("no no", 4), ("yes no", 5), ("no yes", 6), ("yes yes", 7)):
+            for window in ("0 1 0 1", "-0.0 1 0.25 0.5", "5 -5 inf -inf", "0x7ff8000000000001 1 0 1"):
+                file = job.pack(self.text(window, periodic))
+                self.assertEqual(file[8], flags)
+                self.assertEqual(job.pack(job.unpack(file)), file)
+        self.assertIn("\nwindow 0.25 0.75 0.0 1.0\ntolerance", job.unpack(job.pack(self.text("0.25 0.75 0 1"))))
+        self.assertNotIn("window", job.unpack(SQUARE))
+
+    def test_damaged_texts(self):
+        line, text = "window 0 1 0 1\n", self.text("0 1 0 1")
+        for damaged in ("window\n", "window 0 1 0\n", "window 0 1 0 1 0\n", "window 0 1 0 nan\n", line * 2):
+            self.assertRaises(job.Malformed, job.pack, text.replace(line, damaged))
+        self.assertRaises(job.Malformed, job.pack, TEXT + line)
+        self.assertRaises(job.Malformed, job.pack, line + TEXT)
+
+    def test_marks_stay_inside(self):
+        self.assertEqual(self.placed("0.25 0.75 0 1"), [(0.75, 0.5, 908, 0)])
+        self.assertEqual(self.placed("0.25 0.75 0 1", marks="mark 0 0.5 0.75\nmark 0.375 0.5 0\n"),
+                         [(0.25, 0.5, 908, 0), (0.375, 0.5, 816, 0)])
+        self.assertEqual(self.placed("0 1 0.5 0.75", marks="mark 0.25 9 0.75\n"), [(0.25, 0.75, 908, 0)])
+        self.assertEqual(self.placed("0 1 0.5 0.75", "yes no", marks="mark 0.25 0 0.75\n"), [(0.25, 0.5, 908, 0)])
+        self.assertEqual(self.placed("0.25 0.75 0 1", "no yes"), [(0.75, 0.5, 908, 0)])
+
+    def test_the_domain_for_a_window_changes_nothing(self):
+        self.assertEqual(place_bytes(job.pack(self.text("0 1 0 1", marks="mark 0.25 0.5 0.75\n" * 2))), (PRINTED, ""))
+
+    def test_refused_windows(self):
+        refused = (b"marks 1\nrefused 24 at 0\n", "")
+        for window in ("0.75 0.25 0 1", "0.5 0.5 0 1", "-0.5 0.5 0 1", "0.5 1.5 0 1", "0 1 -1 0.5", "0 1 0.5 2",
+                       "0 inf 0 1", "0 1 -inf 1", "0x7ff8000000000000 1 0 1", "0 1 0 0x7ff8000000000000"):
+            self.assertEqual(place_bytes(job.pack(self.text(window))), refused)
+        for window, periodic in (("0 0.5 0 1", "yes no"), ("0.5 1 0 1", "yes yes"), ("0 1 0.5 1", "no yes")):
+            self.assertEqual(place_bytes(job.pack(self.text(window, periodic))), refused)
+        self.assertEqual(place_bytes(job.pack(self.text("1 0 0 1", marks=""))), (b"marks 0\nrefused 24 at 0\n", ""))
+
+    def test_the_order_of_refusals(self):
+        text = self.text("1 0 0 1")
+        self.assertEqual(place_bytes(job.pack(text.replace("knots_v 0 0", "knots_v 9 0"))), (b"marks 1\nrefused 6 at 0\n", ""))
+        for old, new in (("tolerance 0.5", "tolerance -1"), ("budget 1000", "budget 0"), ("mark 0.9", "mark inf")):
+            self.assertIn(old, text)
+            self.assertEqual(place_bytes(job.pack(text.replace(old, new))), (b"marks 1\nrefused 24 at 0\n", ""))
+
+    def test_malformed_files(self):
+        file = job.pack(self.text("0 1 0 1"))
+        at = file.index(b"TL")
+        flags = [file[:8] + bytes([byte]) + file[9:] for byte in (0, 3, 8, 12, 255)]
+        cut = [file[:end] for end in (at - 32, at - 8, at - 1, at, len(file) - 1)]
+        gone = [file[: at - count] + file[at:] for count in (1, 8, 32)]
+        bare = [SQUARE[:8] + bytes([byte]) + SQUARE[9:] for byte in (4, 7, 8)]
+        for damaged in flags + cut + gone + bare:
+            self.assertRaises(job.Malformed, job.unpack, damaged)
+            self.assertEqual(place_bytes(damaged), (MALFORMED, ""))
+
+    def test_the_largest_file(self):
+        file = job.pack(self.text("0 1 0 1", marks="").replace("budget 1000", "budget 4000000000"))
+        room = (32768 - len(file)) // 26
+        file += (b"MK" + struct.pack("<3d", 0.25, 0.5, 0)) * room
+        self.assertEqual(len(job.whole_printout(place_bytes(file)[0].decode()).pairs), room)
+        self.assertEqual(len(job.parse(file).marks), room)
+        self.assertEqual(place_bytes(file + bytes(32769 - len(file))), (MALFORMED, ""))
+
+    def test_pieces_make_the_whole(self):
+        for window in ("0.25 0.75 0 1", "1 0 0 1"):
+            file = job.pack(self.text(window))
+            self.assertEqual(place_pieces(at_records(file)), place_bytes(file))
+            self.assertEqual(place_pieces(struct.pack("B", byte) for byte in file), place_bytes(file))
+
+
 class Service(unittest.TestCase):
     """As docs/BOX.md has it: four files in one folder, the jobs in another."""
 
@@ -280,6 +369,16 @@ class Printouts(unittest.TestCase):
         header = (HERE.parent / "bindings" / "c" / "placing.h").read_text()
         self.assertEqual(tuple(re.findall(r'case PLACING_END_\w+:\s+return "(.*)";', header)), job.ENDS)
 
+    def test_the_words_of_a_refusal_are_those_of_the_header(self):
+        header = (HERE.parent / "bindings" / "c" / "placing.h").read_text()
+        numbers = dict(re.findall(r"(PLACING_\w+) = (\d+)", header))
+        found = re.findall(r'case (PLACING_\w+):\s+return ((?:".*"\s*)+);', header)
+        words = {int(numbers[name]): "".join(re.findall('"(.*)"', text)) for name, text in found if "_END_" not in name}
+        self.assertEqual({**job.REFUSALS, 99: words[99]}, words)
+        for number in job.REFUSALS:
+            self.assertEqual(job.read(f"marks 1\nrefused {number} at 0\n"), (f"marks 1\nrefused {number} at 0: {words[number]}\n", 3))
+        self.assertEqual(job.read("marks 1\nrefused 13 at 0\n")[1], 3)
+
     def test_cut_before_the_digit(self):
         front = PRINTED.decode().removesuffix("816 0\n")
         for rest in ("", "8", "816", "816 ", "816 0", "\n", "8\n", "816\n", "816 \n"):
@@ -317,6 +416,17 @@ class Distances(unittest.TestCase):
         self.assertEqual(far.returncode, 4)
         self.assertEqual([b"ABOVE" in line for line in far.stdout.splitlines()], [True, True, True, False])
         self.assertIn(b"mark 2 end unchanged distance 1000000000.0 ABOVE the tolerance 0.5\n", far.stdout)
+
+    def test_a_window(self):
+        text = TEXT.replace("tolerance 0.5", "window 0.25 0.75 0 1\ntolerance 0.8")
+        inside = self.check(text)
+        self.assertEqual((inside.returncode, inside.stdout.count(b"distance 0.75\n")), (0, 2))
+        beside = self.check(text + "mark 0.9 0.5 0.75\nmark 0.99 0.5 0\nmark 1.6 0.5 0\n")
+        self.assertEqual(beside.returncode, 4)
+        self.assertEqual([b"ABOVE" in line for line in beside.stdout.splitlines()], [False] * 4 + [True])
+        self.assertIn(f"mark 3 end unchanged distance {0.99 - 0.75!r}\n".encode(), beside.stdout)
+        refused = self.check(text.replace("0.25 0.75", "0.75 0.25"))
+        self.assertEqual((refused.returncode, refused.stdout), (3, b"refused 24 at 0\n"))
 
     def test_a_refused_job(self):
         short = self.check(TEXT.replace("budget 1000", "budget 100"))

@@ -67,6 +67,7 @@ pub fn bumpy(degree: usize, controls: usize) -> Surface {
             .flat_map(|at| [place(at[0]), place(at[1]), height(at)])
             .collect(),
         weights: net.map(|[i, j]| 1. + 0.25 * ((i + j) % 5) as f64).collect(),
+        window: None,
     }
 }
 
@@ -86,6 +87,7 @@ pub fn lent(surface: &Surface) -> Lent<'_> {
         knots: [&surface.knots[0], &surface.knots[1]],
         controls: &surface.controls,
         weights: &surface.weights,
+        window: &[],
     }
 }
 

@@ -51,5 +51,18 @@ int main(void) {
     if (refused)
         printf("mark %" PRIu64 " is refused: %s\n", index[0], placing_refusal_text(refused));
     printf("%" PRIu64 " units are left\n", budget[0]);
-    return refused != PLACING_ARGUMENT;
+    if (refused != PLACING_ARGUMENT)
+        return 1;
+
+    /* Only where u is at most 0.75: a mark beside that is placed at the window's edge. */
+    const double window[] = {0, 0.75, 0, 1};
+    placing_surface part = square;
+    part.window = window;
+    part.window_count = 4;
+    refused = placing_invert(PLACING_SURFACE(&part), 0.9, 0.5, 0, PLACING_NONE, 0.5, PLACING_NONE,
+                             PLACING_NONE, PLACING_ARRAY(budget), PLACING_ARRAY(pair),
+                             PLACING_ARRAY(ended));
+    if (!refused)
+        printf("in the window: u %g, v %g\n", pair[0], pair[1]);
+    return refused != 0;
 }

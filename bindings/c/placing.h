@@ -37,6 +37,7 @@ enum placing_refusal {
     PLACING_SINGULAR = 10,
     PLACING_ROW = 11,
     PLACING_MALFORMED = 12, /* in a printout only */
+    PLACING_WINDOW = 24,    /* after 6, and before 7 */
     PLACING_MISFIT = 99     /* before any other check, with nothing written */
 };
 
@@ -72,9 +73,12 @@ static inline const char *placing_refusal_text(uint64_t number) {
                "answers, or under two bytes a mark for the ends";
     case PLACING_MALFORMED:
         return "the job file is malformed";
+    case PLACING_WINDOW:
+        return "the window is not finite, not rising or beyond the domain, or narrower than it on "
+               "a periodic axis";
     case PLACING_MISFIT:
-        return "flags are above 3, a hint or period has another count of numbers, or there is less "
-               "room than the answer needs";
+        return "flags are above 3, a window, hint or period has another count of numbers, or there "
+               "is less room than the answer needs";
     default:
         return "no refusal has this number";
     }
@@ -84,7 +88,7 @@ static inline const char *placing_refusal_text(uint64_t number) {
 enum placing_end {
     PLACING_END_UNCHANGED = 0,  /* the next step leads to the same pair */
     PLACING_END_FURTHER = 1,    /* the next point is further from the mark, and was not taken */
-    PLACING_END_SMALL_STEP = 2, /* the last move was at most 1e-15 of the wider knot domain */
+    PLACING_END_SMALL_STEP = 2, /* the last move was at most 1e-15 of the window's wider axis */
     PLACING_END_SINGULAR = 3,   /* nudged once, and again the two directions are too nearly one */
     PLACING_END_ROUNDS = 4      /* 33 evaluations, and no other test ended it */
 };
@@ -111,7 +115,12 @@ static inline const char *placing_end_text(uint8_t number) {
  * the nearest to the mark first. */
 enum { PLACING_ORIGIN_HINT = 0 };
 
-/* A surface, whose arguments PLACING_SURFACE(&surface) lays out. */
+/* A surface, whose arguments PLACING_SURFACE(&surface) lays out.
+ *
+ * Its window is none, which is the whole knot domain, or four numbers. placing_invert and
+ * placing_row look for a mark's place inside the window only, its ends included. A periodic axis
+ * keeps its whole domain, and the window's two numbers for it must be the domain's. The other
+ * functions test the window, and know the whole domain all the same. */
 typedef struct placing_surface {
     size_t degree_u, degree_v;
     size_t controls_u, controls_v;
@@ -124,6 +133,8 @@ typedef struct placing_surface {
     size_t controls_count;  /* of coordinates */
     const double *weights;
     size_t weights_count;
+    const double *window; /* the lowest and the highest u, the lowest and the highest v; or none */
+    size_t window_count;  /* 4 or 0 */
 } placing_surface;
 
 enum { PLACING_PERIODIC_U = 1, PLACING_PERIODIC_V = 2 };
@@ -131,26 +142,28 @@ enum { PLACING_PERIODIC_U = 1, PLACING_PERIODIC_V = 2 };
 #define PLACING_SURFACE(s)                                                                         \
     (s)->degree_u, (s)->degree_v, (s)->controls_u, (s)->controls_v, (s)->flags, (s)->knots_u,      \
         (s)->knots_u_count, (s)->knots_v, (s)->knots_v_count, (s)->controls, (s)->controls_count,  \
-        (s)->weights, (s)->weights_count
+        (s)->weights, (s)->weights_count, (s)->window, (s)->window_count
 
-/* An array and its count; and no numbers at all, for a hint or a period that there is not. */
+/* An array and its count; and no numbers at all, for a window, a hint or a period that there is
+ * not. */
 #define PLACING_ARRAY(a) (a), sizeof(a) / sizeof *(a)
 #define PLACING_NONE NULL, 0
 
 #define PLACING_SURFACE_ARGUMENTS                                                                  \
     size_t degree_u, size_t degree_v, size_t controls_u, size_t controls_v, uint64_t flags,        \
         const double *knots_u, size_t knots_u_count, const double *knots_v, size_t knots_v_count,  \
-        const double *controls, size_t controls_count, const double *weights, size_t weights_count
+        const double *controls, size_t controls_count, const double *weights,                      \
+        size_t weights_count, const double *window, size_t window_count
 
 /* Point and first derivatives at (u, v): nine numbers, the point, along u, along v. */
 uint64_t placing_evaluate(PLACING_SURFACE_ARGUMENTS, double u, double v, double *jet,
                           size_t jet_count);
 
 /* u and v of the surface point nearest to the mark: two numbers. The hint is none or two numbers,
- * a period none or one: it moves the answer to the hint's turn, and u or v is then infinite where
- * the hint lies too many periods away. budget[0] is the budget of evaluations, and afterwards what
- * is left. ended has two bytes: how the run that was chosen ended, an enum placing_end, and where
- * it came from, PLACING_ORIGIN_HINT or a start's place. */
+ * a period none or one: it moves the answer to the hint's turn, out of the window as well, and u
+ * or v is then infinite where the hint lies too many periods away. budget[0] is the budget of
+ * evaluations, and afterwards what is left. ended has two bytes: how the run that was chosen ended,
+ * an enum placing_end, and where it came from, PLACING_ORIGIN_HINT or a start's place. */
 uint64_t placing_invert(PLACING_SURFACE_ARGUMENTS, double x, double y, double z, const double *hint,
                         size_t hint_count, double tolerance, const double *period_u,
                         size_t period_u_count, const double *period_v, size_t period_v_count,
@@ -162,7 +175,7 @@ uint64_t placing_invert(PLACING_SURFACE_ARGUMENTS, double x, double y, double z,
  * the next mark's hint, as it is written, where its run's end, before any shift by a period, is at
  * most the tolerance from its mark. Any other mark is lost: the next has no hint, and is placed as
  * by placing_invert without one. index[0] is afterwards the index of the mark that was refused, and
- * 0 where none was. Refusals 1 to 6 and 11 are no mark's fault, and neither is a 7 that a row
+ * 0 where none was. Refusals 1 to 6, 11 and 24 are no mark's fault, and neither is a 7 that a row
  * without marks is refused with too: the hint, the tolerance and the periods are tested before the
  * first mark. A pair may be infinite as above, and the next mark is then refused with 7, unless the
  * pair's own mark is lost. */

@@ -22,7 +22,9 @@ static int failures;
 static const double knots[] = {0, 0, 1, 1};
 static const double net[] = {0, 0, 0, 0, 1, 0, 1, 0, 0, 1, 1, 0};
 static const double weights[] = {1, 1, 1, 1};
-static const placing_surface square = {1, 1, 2, 2, 0, knots, 4, knots, 4, net, 12, weights, 4};
+static const placing_surface square = {
+    1, 1, 2, 2, 0, knots, 4, knots, 4, net, 12, weights, 4, PLACING_NONE,
+};
 
 static void evaluate(void) {
     double jet[10] = {[9] = 7};
@@ -41,6 +43,27 @@ static void evaluate(void) {
     EXPECT(placing_evaluate(PLACING_SURFACE(&s), 0.25, 0.5, PLACING_ARRAY(jet)) == PLACING_MISFIT);
 }
 
+/* Every function that takes a surface refuses this one with the number, and leaves all that it is
+ * lent, but for a row's index. */
+static int is_refused(const placing_surface *s, uint64_t number) {
+    uint64_t budget[1] = {5}, index[1] = {9}, collapsed[4] = {9};
+    double out[20] = {7};
+    uint8_t ended[2] = {7, 7};
+    const double mark[3] = {0};
+    int so = placing_evaluate(PLACING_SURFACE(s), 0, 0, PLACING_ARRAY(out)) == number;
+    so &= placing_invert(PLACING_SURFACE(s), 0, 0, 0, PLACING_NONE, 0, PLACING_NONE, PLACING_NONE,
+                         PLACING_ARRAY(budget), PLACING_ARRAY(out), PLACING_ARRAY(ended)) == number;
+    so &= placing_row(PLACING_SURFACE(s), PLACING_ARRAY(mark), PLACING_NONE, 0, PLACING_NONE,
+                      PLACING_NONE, PLACING_ARRAY(budget), PLACING_ARRAY(index), PLACING_ARRAY(out),
+                      PLACING_ARRAY(ended)) == number;
+    so &= placing_derivative(PLACING_SURFACE(s), 0, 0, 1, 0, 0, PLACING_ARRAY(budget),
+                             PLACING_ARRAY(out)) == number;
+    so &= placing_nurbs_singular(PLACING_SURFACE(s), 0, PLACING_ARRAY(collapsed),
+                                 PLACING_ARRAY(out)) == number;
+    so &= index[0] == (number == PLACING_MISFIT ? 9 : 0);
+    return so && budget[0] == 5 && collapsed[0] == 9 && out[0] == 7 && SAME_BYTES(ended, 7, 7);
+}
+
 /* Each refusal of a surface, by one fault at a time. */
 static void surfaces(void) {
     const double infinite[] = {0, 0, 1.0 / 0.0, 0, 1, 0, 1, 0, 0, 1, 1, 0};
@@ -55,23 +78,159 @@ static void surfaces(void) {
     s[PLACING_WEIGHTS].weights = light;
     s[PLACING_DEGREE].degree_v = 17;
     s[PLACING_KNOTS].knots_v = disordered;
-    for (uint64_t i = 1; i < 7; i++) {
-        uint64_t budget[1] = {5}, index[1] = {9}, collapsed[4];
-        double out[20] = {7};
-        uint8_t ended[2] = {7, 7};
-        const double mark[3] = {0};
-        EXPECT(placing_evaluate(PLACING_SURFACE(&s[i]), 0, 0, PLACING_ARRAY(out)) == i);
-        EXPECT(placing_invert(PLACING_SURFACE(&s[i]), 0, 0, 0, PLACING_NONE, 0, PLACING_NONE,
-                              PLACING_NONE, PLACING_ARRAY(budget), PLACING_ARRAY(out),
-                              PLACING_ARRAY(ended)) == i);
-        EXPECT(placing_row(PLACING_SURFACE(&s[i]), PLACING_ARRAY(mark), PLACING_NONE, 0,
-                           PLACING_NONE, PLACING_NONE, PLACING_ARRAY(budget), PLACING_ARRAY(index),
-                           PLACING_ARRAY(out), PLACING_ARRAY(ended)) == i);
-        EXPECT(placing_derivative(PLACING_SURFACE(&s[i]), 0, 0, 1, 0, 0, PLACING_ARRAY(budget),
-                                  PLACING_ARRAY(out)) == i);
-        EXPECT(placing_nurbs_singular(PLACING_SURFACE(&s[i]), 0, PLACING_ARRAY(collapsed),
-                                      PLACING_ARRAY(out)) == i);
-        EXPECT(budget[0] == 5 && index[0] == 0 && out[0] == 7 && SAME_BYTES(ended, 7, 7));
+    for (uint64_t i = 1; i < 7; i++)
+        EXPECT(is_refused(&s[i], i));
+}
+
+/* The square with a window and flags. */
+static placing_surface seen(const double window[4], uint64_t flags) {
+    placing_surface s = square;
+    s.window = window;
+    s.window_count = 4;
+    s.flags = flags;
+    return s;
+}
+#define WINDOW(...) ((const double[4]){__VA_ARGS__})
+
+/* A mark without a hint: whether it has this pair, for this price and no less, by the first start.
+ */
+static int is_placed(const placing_surface *s, double x, double y, double u, double v,
+                     uint64_t price) {
+    uint64_t budget[1] = {price};
+    double pair[2];
+    uint8_t ended[2];
+    int so = !placing_invert(PLACING_SURFACE(s), x, y, 0.75, PLACING_NONE, 0.5, PLACING_NONE,
+                             PLACING_NONE, PLACING_ARRAY(budget), PLACING_ARRAY(pair),
+                             PLACING_ARRAY(ended));
+    so &= SAME(pair, u, v) && SAME_BYTES(ended, PLACING_END_UNCHANGED, 1) && budget[0] == 0;
+    budget[0] = price - 1;
+    return so && placing_invert(PLACING_SURFACE(s), x, y, 0.75, PLACING_NONE, 0.5, PLACING_NONE,
+                                PLACING_NONE, PLACING_ARRAY(budget), PLACING_ARRAY(pair),
+                                PLACING_ARRAY(ended)) == PLACING_UNITS;
+}
+
+/* Marks stay inside a window. */
+static void window(void) {
+    const placing_surface half = seen(WINDOW(0.25, 0.75, 0, 1), 0);
+    EXPECT(is_placed(&square, 0.9, 0.5, 0.9, 0.5, 93));
+    EXPECT(is_placed(&half, 0.9, 0.5, 0.75, 0.5, 92));
+    EXPECT(is_placed(&half, 0, 0.5, 0.25, 0.5, 92));
+    EXPECT(is_placed(&half, 0.375, 0.5, 0.375, 0.5, 92));
+    const placing_surface band = seen(WINDOW(0, 1, 0.5, 0.75), 0);
+    EXPECT(is_placed(&band, 0.25, 0, 0.25, 0.5, 92));
+    EXPECT(is_placed(&band, 0.25, 9, 0.25, 0.75, 92));
+
+    /* A hint outside it is taken to its edge, and a pair there leads the next mark. */
+    const double hint[] = {0.9, 0.5}, marks[] = {0.9, 0.5, 0.75, 0, 0.5, 0.75};
+    uint64_t budget[1] = {3}, index[1] = {9};
+    double answers[4];
+    uint8_t ends[4];
+    EXPECT(!placing_row(PLACING_SURFACE(&half), PLACING_ARRAY(marks), PLACING_ARRAY(hint), 1,
+                        PLACING_NONE, PLACING_NONE, PLACING_ARRAY(budget), PLACING_ARRAY(index),
+                        PLACING_ARRAY(answers), PLACING_ARRAY(ends)));
+    EXPECT(SAME(answers, 0.75, 0.5, 0.25, 0.5) && budget[0] == 0 && index[0] == 0);
+    EXPECT(SAME_BYTES(ends, PLACING_END_UNCHANGED, PLACING_ORIGIN_HINT, PLACING_END_UNCHANGED,
+                      PLACING_ORIGIN_HINT));
+
+    /* The other functions know the whole domain. */
+    double out[20];
+    uint64_t collapsed[4];
+    EXPECT(!placing_evaluate(PLACING_SURFACE(&half), 0.875, 0.5, PLACING_ARRAY(out)));
+    EXPECT(SAME(out, 0.875, 0.5, 0, 1, 0, 0, 0, 1, 0));
+    budget[0] = 1;
+    EXPECT(!placing_derivative(PLACING_SURFACE(&half), 0.875, 0.5, 3, 5, 7, PLACING_ARRAY(budget),
+                               PLACING_ARRAY(out)));
+    EXPECT(SAME(out, 3, 5));
+    EXPECT(!placing_nurbs_singular(PLACING_SURFACE(&half), 0.5, PLACING_ARRAY(collapsed),
+                                   PLACING_ARRAY(out)));
+    EXPECT(SAME(out, 0, 0.5, 0, 0, 1, 1, 0.5, 1, 0, -1, 0, 0, 0.5, 0, 1, 1, 1, 0.5, 0, -1));
+
+    /* A window on an axis beside a periodic one, which has its whole domain. */
+    const placing_surface round_u = seen(WINDOW(0, 1, 0.5, 0.75), PLACING_PERIODIC_U);
+    const placing_surface round_v = seen(WINDOW(0.25, 0.75, 0, 1), PLACING_PERIODIC_V);
+    EXPECT(is_placed(&round_u, 0.25, 0, 0.25, 0.5, 92));
+    EXPECT(is_placed(&round_v, 0.9, 0.5, 0.75, 0.5, 92));
+    EXPECT(!placing_evaluate(PLACING_SURFACE(&round_u), 1.25, 0.25, PLACING_ARRAY(out)));
+}
+
+/* A window with the bits of the domain answers and costs what none does. */
+static void whole(void) {
+    const placing_surface surfaces[] = {square, seen(WINDOW(0, 1, 0, 1), 0)};
+    const double marks[] = {0.3, 0.6, 0.75, -1, 2, 0.75, 0.1, 0.2, 0.3, 0.7, 0.7, 0};
+    const double hint[] = {0.9, 0.1};
+    uint64_t budgets[2], index[1];
+    double answers[2][8];
+    uint8_t ends[2][8];
+    for (int i = 0; i < 2; i++) {
+        budgets[i] = 1000;
+        EXPECT(!placing_row(PLACING_SURFACE(&surfaces[i]), PLACING_ARRAY(marks),
+                            PLACING_ARRAY(hint), 0.5, PLACING_NONE, PLACING_NONE, &budgets[i], 1,
+                            PLACING_ARRAY(index), PLACING_ARRAY(answers[i]),
+                            PLACING_ARRAY(ends[i])));
+    }
+    EXPECT(!memcmp(answers[0], answers[1], sizeof answers[0]));
+    EXPECT(!memcmp(ends[0], ends[1], sizeof ends[0]));
+    EXPECT(budgets[0] == budgets[1] && budgets[0] < 1000);
+}
+
+/* Each fault of a window by itself, and when it is tested. */
+static void windows(void) {
+    const double inf = 1.0 / 0.0;
+    const double faults[][4] = {
+        {NAN, 1, 0, 1},    {0, NAN, 0, 1},   {0, 1, NAN, 1},
+        {0, 1, 0, NAN},    {-inf, 1, 0, 1},  {0, inf, 0, 1},
+        {0, 1, -inf, 1},   {0, 1, 0, inf},   {0.75, 0.25, 0, 1},
+        {0.5, 0.5, 0, 1},  {0, 1, 1, 0},     {0, 1, 0.5, 0.5},
+        {-0.5, 0.5, 0, 1}, {0.5, 1.5, 0, 1}, {0, 1 + DBL_EPSILON, 0, 1},
+        {0, 1, -1, 0.5},   {0, 1, 0.5, 2},   {2, 3, 0, 1},
+    };
+    for (size_t i = 0; i < sizeof faults / sizeof *faults; i++) {
+        const placing_surface s = seen(faults[i], 0);
+        EXPECT(is_refused(&s, PLACING_WINDOW));
+    }
+    const placing_surface narrow_u[] = {seen(WINDOW(0, 0.5, 0, 1), PLACING_PERIODIC_U),
+                                        seen(WINDOW(0.5, 1, 0, 1), PLACING_PERIODIC_U)};
+    const placing_surface narrow_v[] = {seen(WINDOW(0, 1, 0, 0.5), PLACING_PERIODIC_V),
+                                        seen(WINDOW(0, 1, 0.5, 1), PLACING_PERIODIC_V)};
+    for (int i = 0; i < 2; i++) {
+        EXPECT(is_refused(&narrow_u[i], PLACING_WINDOW));
+        EXPECT(is_refused(&narrow_v[i], PLACING_WINDOW));
+    }
+
+    /* After 6 and 11; before 7, 8 and 9. */
+    placing_surface s = seen(WINDOW(1, 0, 0, 1), 0);
+    const double mark[] = {NAN, 0, 0};
+    uint64_t budget[1] = {0}, index[1], collapsed[4];
+    double out[20];
+    uint8_t ended[2];
+    EXPECT(placing_evaluate(PLACING_SURFACE(&s), 9, 9, PLACING_ARRAY(out)) == PLACING_WINDOW);
+    EXPECT(placing_invert(PLACING_SURFACE(&s), NAN, 0, 0, PLACING_NONE, -1, PLACING_NONE,
+                          PLACING_NONE, PLACING_ARRAY(budget), PLACING_ARRAY(out),
+                          PLACING_ARRAY(ended)) == PLACING_WINDOW);
+    EXPECT(placing_row(PLACING_SURFACE(&s), PLACING_ARRAY(mark), PLACING_NONE, -1, PLACING_NONE,
+                       PLACING_NONE, PLACING_ARRAY(budget), PLACING_ARRAY(index),
+                       PLACING_ARRAY(out), PLACING_ARRAY(ended)) == PLACING_WINDOW);
+    EXPECT(placing_row(PLACING_SURFACE(&s), mark, 2, PLACING_NONE, -1, PLACING_NONE, PLACING_NONE,
+                       PLACING_ARRAY(budget), PLACING_ARRAY(index), PLACING_ARRAY(out),
+                       PLACING_ARRAY(ended)) == PLACING_ROW);
+    EXPECT(placing_derivative(PLACING_SURFACE(&s), 0, 0, NAN, 0, 0, PLACING_ARRAY(budget),
+                              PLACING_ARRAY(out)) == PLACING_WINDOW);
+    EXPECT(placing_nurbs_singular(PLACING_SURFACE(&s), -1, PLACING_ARRAY(collapsed),
+                                  PLACING_ARRAY(out)) == PLACING_WINDOW);
+    const double disordered[] = {0, 1, 0, 1};
+    s.knots_v = disordered;
+    EXPECT(is_refused(&s, PLACING_KNOTS));
+
+    /* Another count is none of the surface's faults, and comes before them all. */
+    const double numbers[] = {0, 1, 0, 1, 0};
+    const size_t counts[] = {1, 2, 3, 5};
+    for (int i = 0; i < 4; i++) {
+        s = square;
+        s.window = numbers;
+        s.window_count = counts[i];
+        EXPECT(is_refused(&s, PLACING_MISFIT));
+        s.controls_u = SIZE_MAX;
+        EXPECT(is_refused(&s, PLACING_MISFIT));
     }
 }
 
@@ -460,6 +619,9 @@ static void nothing(void) {
 
 static void words(void) {
     EXPECT(!strcmp(placing_refusal_text(PLACING_DEGREE), "a degree is 0 or above 16"));
+    EXPECT(!strcmp(placing_refusal_text(PLACING_WINDOW),
+                   "the window is not finite, not rising or beyond the domain, or narrower than it "
+                   "on a periodic axis"));
     EXPECT(!strcmp(placing_refusal_text(13), "no refusal has this number"));
     EXPECT(!strcmp(placing_end_text(PLACING_END_UNCHANGED), "unchanged"));
     EXPECT(!strcmp(placing_end_text(PLACING_END_ROUNDS), "32 rounds"));
@@ -469,6 +631,9 @@ static void words(void) {
 int main(void) {
     evaluate();
     surfaces();
+    window();
+    whole();
+    windows();
     invert();
     ends();
     lead();

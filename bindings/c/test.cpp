@@ -22,6 +22,7 @@ struct Square {
     Numbers knots{0, 0, 1, 1};
     Numbers net{0, 0, 0, 0, 1, 0, 1, 0, 0, 1, 1, 0};
     Numbers weights{1, 1, 1, 1};
+    Numbers window;
 
     placing_surface lent() const {
         placing_surface s = {};
@@ -33,6 +34,8 @@ struct Square {
         s.controls_count = net.size();
         s.weights = weights.data();
         s.weights_count = weights.size();
+        s.window = window.data();
+        s.window_count = window.size();
         return s;
     }
 };
@@ -88,6 +91,21 @@ int main() {
     EXPECT(row(netless, none, none, none, budget, index, no_answers, no_ends) == PLACING_CONTROLS);
     EXPECT(row(weightless, none, none, none, budget, index, no_answers, no_ends) ==
            PLACING_CONTROLS);
+
+    // A window is an empty vector, or one of four numbers.
+    Square whole, half, turned, three;
+    whole.window = {0, 1, 0, 1};
+    half.window = {0.25, 0.75, 0, 1};
+    turned.window = {0.75, 0.25, 0, 1};
+    three.window = {0, 1, 0};
+    const Numbers beside{0.9, 0.5, 0.75};
+    budget[0] = 1000;
+    EXPECT(row(whole, marks, none, none, budget, index, answers, ends) == 0);
+    EXPECT(answers == (Numbers{0.25, 0.5, 0.25, 0.5, 7}) && budget[0] == 816);
+    EXPECT(row(half, beside, none, none, budget, index, answers, ends) == 0);
+    EXPECT(answers == (Numbers{0.75, 0.5, 0.25, 0.5, 7}) && budget[0] == 724);
+    EXPECT(row(turned, beside, none, none, budget, index, answers, ends) == PLACING_WINDOW);
+    EXPECT(row(three, beside, none, none, budget, index, answers, ends) == PLACING_MISFIT);
 
     const Bytes file;
     Bytes printout(PLACING_PRINTOUT_ROOM);

@@ -1,5 +1,5 @@
 //! Places marks on a dome, one by itself and then a row: cargo run --example place
-use placing::{Edge, Placed, Search, Surface};
+use placing::{Edge, Placed, Search, Surface, Window};
 use std::error::Error;
 
 fn main() -> Result<(), Box<dyn Error>> {
@@ -18,6 +18,7 @@ fn main() -> Result<(), Box<dyn Error>> {
         knots: [&knots, &knots],
         controls: &controls,
         weights: &[1.; 9],
+        window: Window::Whole,
     };
     let search = Search {
         tolerance: 1e-9,
@@ -62,6 +63,18 @@ fn main() -> Result<(), Box<dyn Error>> {
         .into_iter()
         .filter(|edge| *edge != Edge::Open);
     println!("{} of its edges collapse to a point", collapsed.count());
+
+    // Only the half of the dome where u is at most 0.5.
+    let half = Surface {
+        window: Window::Within {
+            u: [0., 0.5],
+            v: [0., 1.],
+        },
+        ..dome
+    };
+    let mark = [1.5, 0.5, 0.28125];
+    let [u, v] = half.invert(mark, &search, &mut budget)?.pair;
+    println!("the last of them in the window of u up to 0.5: u {u:.6}, v {v:.6}");
 
     let refused = dome.invert([f64::NAN, 0., 0.], &search, &mut budget);
     println!(

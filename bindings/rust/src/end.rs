@@ -9,7 +9,7 @@ pub enum End {
     /// The next step's point lies strictly further from the mark, and the run kept its pair. Whether
     /// only rounding moved it, or the step was too long, this does not tell.
     Further = 1,
-    /// The last move was at most 1e-15 of the wider knot domain.
+    /// The last move was at most 1e-15 of the window's wider axis.
     SmallStep = 2,
     /// The run was nudged once already, and the surface's two directions are again too nearly one.
     Singular = 3,

@@ -5,7 +5,7 @@
 //! lent is written to, but for a budget and a row's answers and ends.
 //!
 //! ```
-//! use placing::{End, Origin, Refusal, Search, Surface};
+//! use placing::{End, Origin, Refusal, Search, Surface, Window};
 //!
 //! // Degrees 1 and 1: the point at (u, v) is (u, v, 0).
 //! let square = Surface {
@@ -15,6 +15,7 @@
 //!     knots: [&[0., 0., 1., 1.], &[0., 0., 1., 1.]],
 //!     controls: &[0., 0., 0., 0., 1., 0., 1., 0., 0., 1., 1., 0.],
 //!     weights: &[1.; 4],
+//!     window: Window::Whole,
 //! };
 //! let search = Search { tolerance: 0.5, ..Search::default() };
 //!
@@ -84,6 +85,42 @@ pub struct Surface<'a> {
     /// Three coordinates each, u slowest.
     pub controls: &'a [f64],
     pub weights: &'a [f64],
+    /// Where marks may be placed.
+    pub window: Window,
+}
+
+/// The part of a surface that marks are placed in. [`Surface::evaluate`], [`Surface::derivative`]
+/// and [`Surface::nurbs_singular`] test it, and know the whole knot domain all the same.
+///
+/// ```
+/// # use placing::{Refusal, Search, Surface, Window};
+/// # let square = Surface {
+/// #     degrees: [1, 1],
+/// #     shape: [2, 2],
+/// #     periodic: [false, false],
+/// #     knots: [&[0., 0., 1., 1.], &[0., 0., 1., 1.]],
+/// #     controls: &[0., 0., 0., 0., 1., 0., 1., 0., 0., 1., 1., 0.],
+/// #     weights: &[1.; 4],
+/// #     window: Window::Whole,
+/// # };
+/// let part = Surface {
+///     window: Window::Within { u: [0.25, 0.75], v: [0., 1.] },
+///     ..square
+/// };
+/// // A mark beside the window is placed at its edge.
+/// let placed = part.invert([0.9, 0.5, 0.75], &Search::default(), &mut 100)?;
+/// assert_eq!(placed.pair, [0.75, 0.5]);
+/// # Ok::<(), Refusal>(())
+/// ```
+#[derive(Clone, Copy, Debug, Default, PartialEq)]
+pub enum Window {
+    /// The whole knot domain.
+    #[default]
+    Whole,
+    /// From the lowest to the highest u, and v, all included. A periodic axis keeps its whole
+    /// domain: other numbers for it are refused with [`Refusal::Window`], as are those beyond the
+    /// domain of any axis.
+    Within { u: [f64; 2], v: [f64; 2] },
 }
 
 /// Where to look first, and the turn of the answer where an axis has a period.
@@ -94,8 +131,9 @@ pub enum Hint {
     At(Pair),
 }
 
-/// The period of an axis, by which an answer is moved to the hint's turn: it is then infinite where
-/// the hint lies too many periods away. The surface's own flag is another matter.
+/// The period of an axis, by which an answer is moved to the hint's turn, out of the window as well:
+/// it is then infinite where the hint lies too many periods away. The surface's own flag is another
+/// matter.
 #[derive(Clone, Copy, Debug, Default, PartialEq)]
 pub enum Period {
     #[default]
@@ -159,7 +197,7 @@ impl Surface<'_> {
     /// Point and first derivatives at u and v. [`Refusal::Evaluation`] outside the domain.
     pub fn evaluate(&self, [u, v]: Pair) -> Answer<Jet> {
         let mut jet = [[0.; 3]; 3];
-        let number = raw::evaluate(&self.lent(), u, v, jet.as_flattened_mut());
+        let number = self.lend(|lent| raw::evaluate(lent, u, v, jet.as_flattened_mut()));
         let [point, du, dv] = jet;
         answer(number, Jet { point, du, dv })
     }
@@ -171,17 +209,19 @@ impl Surface<'_> {
         let mut pair = [0.; 2];
         let mut ended = [0; 2];
         let [pu, pv] = &search.periods;
-        let number = raw::invert(
-            &self.lent(),
-            mark,
-            search.hint.numbers(),
-            search.tolerance,
-            pu.numbers(),
-            pv.numbers(),
-            slice::from_mut(budget),
-            &mut pair,
-            &mut ended,
-        );
+        let number = self.lend(|lent| {
+            raw::invert(
+                lent,
+                mark,
+                search.hint.numbers(),
+                search.tolerance,
+                pu.numbers(),
+                pv.numbers(),
+                slice::from_mut(budget),
+                &mut pair,
+                &mut ended,
+            )
+        });
         answer(number, ())
             .map(|()| Placed::read(pair, ended).expect("the library writes no other bytes"))
     }
@@ -197,7 +237,7 @@ impl Surface<'_> {
     /// the pair's own mark is lost.
     ///
     /// ```
-    /// # use placing::{End, Origin, Placed, RowRefusal, Search, Surface};
+    /// # use placing::{End, Origin, Placed, RowRefusal, Search, Surface, Window};
     /// # let square = Surface {
     /// #     degrees: [1, 1],
     /// #     shape: [2, 2],
@@ -205,6 +245,7 @@ impl Surface<'_> {
     /// #     knots: [&[0., 0., 1., 1.], &[0., 0., 1., 1.]],
     /// #     controls: &[0., 0., 0., 0., 1., 0., 1., 0., 0., 1., 1., 0.],
     /// #     weights: &[1.; 4],
+    /// #     window: Window::Whole,
     /// # };
     /// let search = Search { tolerance: 1., ..Search::default() };
     /// let marks = [[0.25, 0.5, 0.75], [0.5, 0.5, 0.75]];
@@ -262,18 +303,20 @@ impl Surface<'_> {
     ) -> (u64, u64) {
         let mut index = 0;
         let [pu, pv] = &search.periods;
-        let number = raw::row(
-            &self.lent(),
-            marks,
-            search.hint.numbers(),
-            search.tolerance,
-            pu.numbers(),
-            pv.numbers(),
-            slice::from_mut(budget),
-            slice::from_mut(&mut index),
-            answers,
-            ends,
-        );
+        let number = self.lend(|lent| {
+            raw::row(
+                lent,
+                marks,
+                search.hint.numbers(),
+                search.tolerance,
+                pu.numbers(),
+                pv.numbers(),
+                slice::from_mut(budget),
+                slice::from_mut(&mut index),
+                answers,
+                ends,
+            )
+        });
         (number, index)
     }
 
@@ -296,7 +339,7 @@ impl Surface<'_> {
     pub fn derivative(&self, [u, v]: Pair, vector: Point, budget: &mut u64) -> Answer<Pair> {
         let mut pair = [0.; 2];
         let budget = slice::from_mut(budget);
-        let number = raw::derivative(&self.lent(), u, v, vector, budget, &mut pair);
+        let number = self.lend(|lent| raw::derivative(lent, u, v, vector, budget, &mut pair));
         answer(number, pair)
     }
 
@@ -305,12 +348,9 @@ impl Surface<'_> {
     pub fn nurbs_singular(&self, tolerance: f64) -> Answer<[Edge; 4]> {
         let mut collapsed = [0; 4];
         let mut edges = [[0.; 5]; 4];
-        let number = raw::nurbs_singular(
-            &self.lent(),
-            tolerance,
-            &mut collapsed,
-            edges.as_flattened_mut(),
-        );
+        let number = self.lend(|lent| {
+            raw::nurbs_singular(lent, tolerance, &mut collapsed, edges.as_flattened_mut())
+        });
         let edge = |i: usize| {
             let [value, x, y, z, side] = edges[i];
             let point = [x, y, z];
@@ -323,15 +363,25 @@ impl Surface<'_> {
         answer(number, [0, 1, 2, 3].map(edge))
     }
 
-    fn lent(&self) -> raw::Lent<'_> {
-        raw::Lent {
+    /// Makes a call on the surface as the library is lent it.
+    fn lend(&self, call: impl FnOnce(&raw::Lent) -> u64) -> u64 {
+        let within;
+        let window = match self.window {
+            Window::Whole => &[],
+            Window::Within { u, v } => {
+                within = [u, v];
+                within.as_flattened()
+            }
+        };
+        call(&raw::Lent {
             degrees: self.degrees,
             shape: self.shape,
             flags: u64::from(self.periodic[0]) + 2 * u64::from(self.periodic[1]),
             knots: self.knots,
             controls: self.controls,
             weights: self.weights,
-        }
+            window,
+        })
     }
 }
 

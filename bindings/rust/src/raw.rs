@@ -4,9 +4,9 @@
 //! budget, and in a row `index` and the pairs and ends before the refused mark.
 //!
 //! Every argument is tested, so all of them are safe. 99 is answered, before any other check and
-//! with nothing written, where `flags` is above 3, a hint has neither no number nor two, a period
-//! has more than one, or a slice is too short for what is to be written to it. A row whose
-//! answers or ends don't fit is refused with 11 instead.
+//! with nothing written, where `flags` is above 3, a window has neither no number nor four, a hint
+//! neither none nor two, a period more than one, or a slice is too short for what is to be written
+//! to it. A row whose answers or ends don't fit is refused with 11 instead.
 
 /// Bytes that are room enough for every job's printout.
 pub const PRINTOUT_ROOM: usize = 72_704;
@@ -23,6 +23,8 @@ pub struct Lent<'a> {
     /// Three coordinates each, u slowest.
     pub controls: &'a [f64],
     pub weights: &'a [f64],
+    /// The lowest and the highest u, the lowest and the highest v; or none, for the whole domain.
+    pub window: &'a [f64],
 }
 
 // A slice goes as a pointer and a count. Nothing but this file ties the declarations to the
@@ -42,6 +44,8 @@ unsafe extern "C" {
         controls_count: usize,
         weights: *const f64,
         weights_count: usize,
+        window: *const f64,
+        window_count: usize,
         u: f64,
         v: f64,
         jet: *mut f64,
@@ -61,6 +65,8 @@ unsafe extern "C" {
         controls_count: usize,
         weights: *const f64,
         weights_count: usize,
+        window: *const f64,
+        window_count: usize,
         x: f64,
         y: f64,
         z: f64,
@@ -92,6 +98,8 @@ unsafe extern "C" {
         controls_count: usize,
         weights: *const f64,
         weights_count: usize,
+        window: *const f64,
+        window_count: usize,
         marks: *const f64,
         marks_count: usize,
         hint: *const f64,
@@ -124,6 +132,8 @@ unsafe extern "C" {
         controls_count: usize,
         weights: *const f64,
         weights_count: usize,
+        window: *const f64,
+        window_count: usize,
         u: f64,
         v: f64,
         x: f64,
@@ -148,6 +158,8 @@ unsafe extern "C" {
         controls_count: usize,
         weights: *const f64,
         weights_count: usize,
+        window: *const f64,
+        window_count: usize,
         tolerance: f64,
         collapsed: *mut u64,
         collapsed_count: usize,
@@ -202,6 +214,8 @@ macro_rules! on {
                 $surface.controls.len(),
                 $surface.weights.as_ptr(),
                 $surface.weights.len(),
+                $surface.window.as_ptr(),
+                $surface.window.len(),
                 $($argument),+
             )
         }

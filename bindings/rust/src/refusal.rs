@@ -42,8 +42,10 @@ refusals! {
     Row = 11: "the marks are not in threes, or there are under two numbers a mark for the answers, or \
         under two bytes a mark for the ends",
     Malformed = 12: "the job file is malformed",
-    Misfit = 99: "flags are above 3, a hint or period has another count of numbers, or there is less \
-        room than the answer needs",
+    Window = 24: "the window is not finite, not rising or beyond the domain, or narrower than it on a \
+        periodic axis",
+    Misfit = 99: "flags are above 3, a window, hint or period has another count of numbers, or there \
+        is less room than the answer needs",
 }
 
 impl Refusal {

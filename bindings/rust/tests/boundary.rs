@@ -11,31 +11,73 @@ fn square(flags: u64) -> Lent<'static> {
         knots: [&KNOTS, &KNOTS],
         controls: &[0., 0., 0., 0., 1., 0., 1., 0., 0., 1., 1., 0.],
         weights: &[1.; 4],
+        window: &[],
     }
 }
 
 const MARK: [f64; 3] = [0.25, 0.5, 0.75];
 
+fn in_window(window: &[f64]) -> Lent<'_> {
+    Lent {
+        window,
+        ..square(0)
+    }
+}
+
+/// Every function that takes a surface refuses this one with 99 and writes nothing.
+fn is_unfit(s: &Lent) {
+    let (mut budget, mut index, mut collapsed) = ([9], [9], [9; 4]);
+    let (mut out, mut ended) = ([7.; 20], [7; 2]);
+    let (b, e) = (&mut budget, &mut ended);
+    assert_eq!(raw::evaluate(s, 0., 0., &mut out), 99);
+    assert_eq!(raw::invert(s, MARK, &[], 0.5, &[], &[], b, &mut out, e), 99);
+    assert_eq!(
+        raw::row(s, &MARK, &[], 0.5, &[], &[], b, &mut index, &mut out, e),
+        99
+    );
+    assert_eq!(raw::derivative(s, 0., 0., MARK, b, &mut out), 99);
+    assert_eq!(raw::nurbs_singular(s, 0.5, &mut collapsed, &mut out), 99);
+    assert_eq!(
+        (budget, index, collapsed, out, ended),
+        ([9], [9], [9; 4], [7.; 20], [7; 2])
+    );
+}
+
 #[test]
 fn flags_above_three() {
     for flags in [4, 5, u64::MAX] {
-        let s = &square(flags);
-        let (mut budget, mut index, mut collapsed) = ([9], [9], [9; 4]);
-        let (mut out, mut ended) = ([7.; 20], [7; 2]);
-        let (b, e) = (&mut budget, &mut ended);
-        assert_eq!(raw::evaluate(s, 0., 0., &mut out), 99);
-        assert_eq!(raw::invert(s, MARK, &[], 0.5, &[], &[], b, &mut out, e), 99);
-        assert_eq!(
-            raw::row(s, &MARK, &[], 0.5, &[], &[], b, &mut index, &mut out, e),
-            99
-        );
-        assert_eq!(raw::derivative(s, 0., 0., MARK, b, &mut out), 99);
-        assert_eq!(raw::nurbs_singular(s, 0.5, &mut collapsed, &mut out), 99);
-        assert_eq!(
-            (budget, index, collapsed, out, ended),
-            ([9], [9], [9; 4], [7.; 20], [7; 2])
-        );
+        is_unfit(&square(flags));
     }
+}
+
+#[test]
+fn windows_of_other_counts() {
+    let numbers = [0., 1., 0., 1., 0.];
+    for count in [1, 2, 3, 5] {
+        let window = &numbers[..count];
+        is_unfit(&in_window(window));
+        // Before any fault of the surface.
+        is_unfit(&Lent {
+            shape: [usize::MAX, 2],
+            ..in_window(window)
+        });
+    }
+}
+
+#[test]
+fn a_window_of_none_or_four() {
+    let invert = |s: &Lent| {
+        let (mut budget, mut pair, mut ended) = ([100], [7.; 2], [7; 2]);
+        let (b, e) = (&mut budget, &mut ended);
+        let mark = [0.9, 0.5, 0.75];
+        assert_eq!(raw::invert(s, mark, &[], 0.5, &[], &[], b, &mut pair, e), 0);
+        (budget, pair, ended)
+    };
+    let half = &in_window(&[0.25, 0.75, 0., 1.]);
+    assert_eq!(invert(half), ([8], [0.75, 0.5], [0, 1]));
+    let whole = &in_window(&[0., 1., 0., 1.]);
+    assert_eq!(invert(whole), ([7], [0.9, 0.5], [0, 1]));
+    assert_eq!(invert(whole), invert(&square(0)));
 }
 
 #[test]

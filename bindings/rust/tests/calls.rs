@@ -1,7 +1,7 @@
 //! Every function, its refusals, and what it leaves of what is lent.
 use placing::{
-    Edge, End, Frame, Hint, Jet, Origin, Period, Placed, Refusal, RowRefusal, Search, Surface, job,
-    plane,
+    Edge, End, Frame, Hint, Jet, Origin, Period, Placed, Refusal, RowRefusal, Search, Surface,
+    Window, job, plane,
 };
 use std::thread;
 
@@ -22,6 +22,15 @@ fn square() -> Surface<'static> {
         knots: [&KNOTS, &KNOTS],
         controls: &NET,
         weights: &[1.; 4],
+        window: Window::Whole,
+    }
+}
+
+/// The square in a window.
+fn seen(u: [f64; 2], v: [f64; 2]) -> Surface<'static> {
+    Surface {
+        window: Window::Within { u, v },
+        ..square()
     }
 }
 
@@ -44,6 +53,7 @@ fn dome() -> Surface<'static> {
             1., 0., 2., 2., 0.,
         ],
         weights: &[1.; 9],
+        window: Window::Whole,
     }
 }
 
@@ -157,19 +167,166 @@ fn refuses_surfaces() {
         ),
     ];
     for (surface, refusal) in cases {
-        let mut budget = 5;
-        let (mut pairs, mut ends) = ([[7.; 2]], [[7; 2]]);
-        assert_eq!(surface.evaluate([0.; 2]), Err(refusal));
-        assert_eq!(surface.invert(MARK, &free(0.5), &mut budget), Err(refusal));
-        assert_eq!(surface.derivative([0.; 2], MARK, &mut budget), Err(refusal));
-        assert_eq!(surface.nurbs_singular(0.5), Err(refusal));
-        let marks: [&[_]; 3] = [&[], &[MARK], &[[f64::NAN; 3]]];
-        for marks in marks {
-            let ended = surface.row(marks, &free(0.5), &mut budget, &mut pairs, &mut ends);
-            assert_eq!(ended, refused(refusal, None));
-        }
-        assert_eq!((budget, pairs, ends), (5, [[7.; 2]], [[7; 2]]));
+        is_refused(&surface, refusal);
     }
+}
+
+/// By every function that takes a surface, with nothing written.
+fn is_refused(surface: &Surface, refusal: Refusal) {
+    let mut budget = 5;
+    let (mut pairs, mut ends) = ([[7.; 2]], [[7; 2]]);
+    assert_eq!(surface.evaluate([0.; 2]), Err(refusal));
+    assert_eq!(surface.invert(MARK, &free(0.5), &mut budget), Err(refusal));
+    assert_eq!(surface.derivative([0.; 2], MARK, &mut budget), Err(refusal));
+    assert_eq!(surface.nurbs_singular(0.5), Err(refusal));
+    let marks: [&[_]; 3] = [&[], &[MARK], &[[f64::NAN; 3]]];
+    for marks in marks {
+        let ended = surface.row(marks, &free(0.5), &mut budget, &mut pairs, &mut ends);
+        assert_eq!(ended, refused(refusal, None));
+    }
+    assert_eq!((budget, pairs, ends), (5, [[7.; 2]], [[7; 2]]));
+}
+
+#[test]
+fn refuses_windows() {
+    let (inf, nan) = (f64::INFINITY, f64::NAN);
+    let whole = [0., 1.];
+    let faults = [
+        [nan, 1.],
+        [0., nan],
+        [-inf, 1.],
+        [0., inf],
+        [0.75, 0.25],
+        [0.5, 0.5],
+        [-0.5, 0.5],
+        [0.5, 1.5],
+        [0., 1. + f64::EPSILON],
+        [2., 3.],
+    ];
+    for fault in faults {
+        is_refused(&seen(fault, whole), Refusal::Window);
+        is_refused(&seen(whole, fault), Refusal::Window);
+    }
+    for narrow in [[0., 0.5], [0.5, 1.]] {
+        let round = |periodic, u, v| Surface {
+            periodic,
+            ..seen(u, v)
+        };
+        is_refused(&round([true, false], narrow, whole), Refusal::Window);
+        is_refused(&round([false, true], whole, narrow), Refusal::Window);
+    }
+}
+
+#[test]
+fn tests_a_window_after_the_knots_and_before_the_search() {
+    let turned = seen([1., 0.], [0., 1.]);
+    let disordered = Surface {
+        knots: [&KNOTS, &[0., 1., 0., 1.]],
+        ..turned
+    };
+    is_refused(&disordered, Refusal::Knots);
+    let search = free(-1.);
+    assert_eq!(
+        turned.invert([f64::NAN; 3], &search, &mut 0),
+        Err(Refusal::Window)
+    );
+    assert_eq!(
+        turned.row(&[MARK], &search, &mut 0, &mut [[0.; 2]], &mut [[0; 2]]),
+        refused(Refusal::Window, None)
+    );
+    assert_eq!(
+        turned.row(&[MARK], &search, &mut 0, &mut [], &mut []),
+        refused(Refusal::Row, None)
+    );
+    assert_eq!(turned.evaluate([9.; 2]), Err(Refusal::Window));
+    assert_eq!(turned.nurbs_singular(-1.), Err(Refusal::Window));
+    assert_eq!(
+        turned.derivative([9.; 2], [f64::NAN; 3], &mut 0),
+        Err(Refusal::Window)
+    );
+}
+
+#[test]
+fn marks_stay_inside_a_window() {
+    let half = seen([0.25, 0.75], [0., 1.]);
+    let band = seen([0., 1.], [0.5, 0.75]);
+    let round = Surface {
+        periodic: [true, false],
+        ..band
+    };
+    let cases = [
+        (square(), [0.9, 0.5, 0.75], [0.9, 0.5], 93),
+        (half, [0.9, 0.5, 0.75], [0.75, 0.5], 92),
+        (half, [0., 0.5, 0.75], [0.25, 0.5], 92),
+        (half, [0.375, 0.5, 0.75], [0.375, 0.5], 92),
+        (band, [0.25, 0., 0.75], [0.25, 0.5], 92),
+        (band, [0.25, 9., 0.75], [0.25, 0.75], 92),
+        (round, [0.25, 0., 0.75], [0.25, 0.5], 92),
+    ];
+    for (surface, mark, pair, price) in cases {
+        let placed = settled(pair, Origin::Start(1));
+        let mut budget = price;
+        assert_eq!(surface.invert(mark, &free(0.5), &mut budget), Ok(placed));
+        assert_eq!(budget, 0);
+    }
+    // A hint outside is taken to the edge, and a pair there leads the next mark.
+    let row = [([0.9, 0.5, 0.75], Close), ([0., 0.5, 0.75], Close)];
+    assert_eq!(prices(&half, row, hinted(0.9, 0.5, 1.)), [1, 2]);
+    let row = [([0.9, 0.5, 0.75], Lost), ([0., 0.5, 0.75], Lost)];
+    assert_eq!(prices(&half, row, free(0.5)), [92, 92]);
+}
+
+#[test]
+fn a_window_keeps_a_mark_on_its_side_of_a_fold() {
+    let below = Surface {
+        window: Window::Within {
+            u: [0., 1.],
+            v: [0., 1.],
+        },
+        ..fold()
+    };
+    let over = [0.25, 0.5, 2.];
+    let place = |surface: &Surface| {
+        let mut budget = 1000;
+        let placed = surface.invert(over, &free(0.5), &mut budget).unwrap();
+        (placed.pair, 1000 - budget)
+    };
+    // The grid has the eighths of one span of u and not of three.
+    assert_eq!(place(&fold()), ([2.75, 0.5], 236));
+    assert_eq!(place(&below), ([0.25, 0.5], 92));
+}
+
+#[test]
+fn a_window_with_the_bits_of_the_domain_changes_nothing() {
+    let marks = [[0.3, 0.6, 0.75], [-1., 2., 0.75], [0.1, 0.2, 0.3], ON];
+    for (plain, u) in [(square(), [0., 1.]), (dome(), [0., 1.]), (fold(), [0., 3.])] {
+        let whole = Surface {
+            window: Window::Within { u, v: [0., 1.] },
+            ..plain
+        };
+        let place = |surface: &Surface| {
+            let (mut budget, mut pairs, mut ends) = (10_000, [[7.; 2]; 4], [[7; 2]; 4]);
+            let search = hinted(0.9, 0.1, 0.5);
+            let ended = surface.row(&marks, &search, &mut budget, &mut pairs, &mut ends);
+            assert_eq!(ended, Ok(()));
+            (budget, pairs.map(|pair| pair.map(f64::to_bits)), ends)
+        };
+        assert_eq!(place(&whole), place(&plain));
+    }
+}
+
+#[test]
+fn the_other_calls_know_the_whole_domain() {
+    let half = seen([0.25, 0.75], [0., 1.]);
+    let at = [0.875, 0.5];
+    assert_eq!(half.evaluate(at), square().evaluate(at));
+    assert_eq!(half.derivative(at, [3., 5., 7.], &mut 1), Ok([3., 5.]));
+    assert_eq!(half.nurbs_singular(0.5), square().nurbs_singular(0.5));
+}
+
+#[test]
+fn a_window_is_whole_by_default() {
+    assert_eq!(Window::default(), Window::Whole);
 }
 
 #[test]
@@ -662,8 +819,13 @@ fn locates_in_a_plane() {
 
 /// The square and the mark twice.
 fn job_file(tolerance: f64) -> Vec<u8> {
-    let mut file = b"SF\x01\x01\x02\x00\x02\x00\x00".to_vec();
-    for number in [&KNOTS[..], &KNOTS, &NET, &[1.; 4]].concat() {
+    job_file_in(0, &[], tolerance)
+}
+
+fn job_file_in(flags: u8, window: &[f64], tolerance: f64) -> Vec<u8> {
+    let mut file = b"SF\x01\x01\x02\x00\x02\x00".to_vec();
+    file.push(flags);
+    for number in [&KNOTS[..], &KNOTS, &NET, &[1.; 4], window].concat() {
         file.extend(number.to_le_bytes());
     }
     file.extend(b"TL");
@@ -693,6 +855,30 @@ fn prints_a_job() {
 }
 
 #[test]
+fn prints_a_job_with_a_window() {
+    let print = |flags, window: &[f64]| String::from_utf8(job(&job_file_in(flags, window, 0.5)));
+    let at = |u: f64| {
+        let u = u.to_bits();
+        Ok(format!(
+            "marks 2\n{u:016x} 3fe0000000000000 908 0\n{u:016x} 3fe0000000000000 816 0\n"
+        ))
+    };
+    assert_eq!(print(4, &[0., 1., 0., 1.]), at(0.25));
+    assert_eq!(print(4, &[0.5, 1., 0., 1.]), at(0.5));
+    assert_eq!(print(6, &[0.5, 1., 0., 1.]), at(0.5));
+    assert_eq!(print(7, &[0., 1., 0., 1.]), at(0.25));
+    let refused = "marks 2\nrefused 24 at 0\n";
+    for (flags, window) in [(4, [1., 0.5, 0., 1.]), (5, [0.5, 1., 0., 1.])] {
+        assert_eq!(print(flags, &window).as_deref(), Ok(refused));
+    }
+    let malformed = "refused 12 at 0\n";
+    let four = [0., 1., 0., 1.];
+    for (flags, window) in [(4, &four[..0]), (4, &four[..3]), (0, &four), (8, &four)] {
+        assert_eq!(print(flags, window).as_deref(), Ok(malformed));
+    }
+}
+
+#[test]
 fn refusals_have_words() {
     let error = |mark| RowRefusal {
         refusal: Refusal::Units,
@@ -704,6 +890,7 @@ fn refusals_have_words() {
     let error: &dyn std::error::Error = &error(None);
     assert_eq!(error.source().unwrap().to_string(), words);
     assert_eq!((Refusal::Row.number(), Refusal::Misfit.number()), (11, 99));
+    assert_eq!(Refusal::from_number(24), Some(Refusal::Window));
     assert_eq!(Refusal::from_number(8), Some(Refusal::Units));
     assert_eq!(Refusal::from_number(13), None);
 }
