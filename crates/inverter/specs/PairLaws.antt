@@ -32,7 +32,7 @@ use Rattle.inversion.specs.InversionLaws.{far, candidates, taken, among, hint-t
 use Rattle.inversion.specs.GridLaws.{starts-six}
 use Rattle.inversion.specs.OriginLaws.{origin-most}
 use Rattle.inversion.specs.SurfaceLaws as Surfaces
-use Rattle.inversion.specs.SurfaceLaws.{InWindow, InDomain, Paired, Chosen, NoNearer, From, in-window, within-domain, whole-grid, first-six, nearest-end, grid-no-nearer, paired}
+use Rattle.inversion.specs.SurfaceLaws.{InWindow, InDomain, Paired, Chosen, NoNearer, From, within-domain, whole-grid, first-six, nearest-end, grid-no-nearer, paired}
 use Rattle.chart.specs.declared.Period.{Period}
 use Rattle.chart.specs.declared.Terms.{Terms}
 use Rattle.chart.specs.declared.Placing.the-variants.{Pair}
@@ -109,7 +109,7 @@ module _ (s : Surface) (ok : refusalOfSurface s ≡ 0) (mark : Vector3) (terms :
       let same : k ≡ n = cc in
       let turn : c ≡ turned terms a = cc in
       let from = rw w at (Surfaces.chosen-from s (scaleOf s) ok mark finite (terms .hint) (terms .tolerance)) in
-      let d = rw w at (in-window s (scaleOf s) ok mark (terms .hint) (terms .tolerance)) in
+      let d = rw w at (Surfaces.in-window s (scaleOf s) ok mark (terms .hint) (terms .tolerance)) in
       record {
         before = a;
         steps = rw (← same) w;
@@ -134,11 +134,20 @@ module _ (s : Surface) (ok : refusalOfSurface s ≡ 0) (mark : Vector3) (terms :
       by true l = by-steps (stepsOf s mark terms) refl c n (rw (answer-enough terms s ok mark sound budget (leb-true _ _ l)) at h)
       by false l = absurd (let g = rw (answer-short terms s ok mark sound budget (leb-false _ _ l)) at h in let z : _≡_ {A = ℕ} 0 1 = cc in omega arith)
 
-  -- "Before that shift, axes without the periodic flag stay in their knot domain.", which the window lies in
-  pub in-domain : {c : Choice} {n : ℕ} (p : Shifted c n) → InDomain (s .shape .u .periodic) (axisU s) (p .before .end .at .u) × InDomain (s .shape .v .periodic) (axisV s) (p .before .end .at .v)
-  in-domain p =
-      let a = accepted-surface s ok in
-      (within-domain (axisU s) (windowOf s .u) _ (window-within-u s a) (p .inside-u), within-domain (axisV s) (windowOf s .v) _ (window-within-v s a) (p .inside-v))
+  module _ (budget : ℕ) (c : Choice) (n : ℕ) (h : placed s mark terms budget ≡ Pair c n) where
+    -- the pair before its shift
+    abbrev pub unshifted : Iterate
+    unshifted = placed-pair budget c n h .before .end .at
+
+    -- "Users may then rely on marks staying inside the window wherever they relied on the knot domain"
+    pub in-window : InWindow (s .shape .u .periodic) (windowOf s .u) (unshifted .u) × InWindow (s .shape .v .periodic) (windowOf s .v) (unshifted .v)
+    in-window = let p = placed-pair budget c n h in (p .inside-u, p .inside-v)
+
+    -- "Before that shift, axes without the periodic flag stay in their knot domain."
+    pub in-domain : InDomain (s .shape .u .periodic) (axisU s) (unshifted .u) × InDomain (s .shape .v .periodic) (axisV s) (unshifted .v)
+    in-domain =
+        let a = accepted-surface s ok in
+        (within-domain (axisU s) (windowOf s .u) _ (window-within-u s a) (in-window .0), within-domain (axisV s) (windowOf s .v) _ (window-within-v s a) (in-window .1))
 
   -- and where the hint run's end lies within tolerance, the call answers that end, shifted, for the evaluations of that run
   pub placed-hint : (u v : Float) → terms .hint ≡ At u v → (e : End) (n : ℕ) → runFrom u v ≡ answered e n → within e (terms .tolerance) ≡ true

@@ -48,7 +48,7 @@ stepOf mark j =
     let r = sub (j .point) mark in
     solve (dot du du) (dot du dv) (dot dv dv) (dot du r) (dot dv r)
 
--- ---- a pair against the domain
+-- ---- a pair against the domain that the run is given, a window or the whole
 
 -- clamped, unless the axis is periodic
 unfoldable pub clampInto : Interval → Float → Float

@@ -38,7 +38,7 @@ Ends P r = Answers (λ e n. P e) r
 abbrev Finishes : (End → Type 0) → Priced Finished → Type 0
 Finishes P r = Answers (λ f n. P (f .end)) r
 
--- on an axis without the flag, in the knot domain
+-- on an axis without the flag, in the interval
 abbrev pub Inside : Interval → Float → Type 0
 Inside i t = i .periodic ≡ false → le (i .low) (i .high) ≡ true → (le (i .low) t ≡ true) × (le t (i .high) ≡ true)
 
@@ -261,7 +261,7 @@ module _ (d : Domain) (mark : Vector3) (eval : Float → Float → Evaluated) wh
         let n = number (e .u) (e .v) (r .jet) (r .found) in
         (rw (r .clampedU) (clamped-inside (d .u) (r .fromU) (rw (r .clampedU) at n .0)), rw (r .clampedV) (clamped-inside (d .v) (r .fromV) (rw (r .clampedV) at n .1)))
 
-    -- a run's end lies in the knot domain, on each axis without the flag
+    -- a run's end lies in the domain that it is given, on each axis without the flag
     pub run-in-domain : (u v : Float) → Ends (λ e. Inside (d .u) (e .at .u) × Inside (d .v) (e .at .v)) (run d mark eval u v)
     run-in-domain u v = answers-map _ _ (λ e n r. reached-inside (e .at) r) (run d mark eval u v) (run-held u v)
 
