@@ -9,7 +9,7 @@ use lib.Ieee.{Float, lt}
 use Rattle.float64.specs.Functions.{isFinite}
 use Rattle.float64.specs.Order.{lt-irrefl, eq-refl, finite→number}
 use Rattle.vector3.specs.declared.Vector3.{Vector3}
-use Rattle.spline.specs.Knots.{Axis, low, high, refusalOfKnots}
+use Rattle.spline.specs.Knots.{refusalOfKnots}
 use Rattle.spline.specs.KnotLaws.{accepted}
 use Rattle.basis.specs.Basis.{Sample, refused, sample}
 use Rattle.net.specs.Sums.{heaviest}
@@ -35,7 +35,7 @@ use Rattle.row_step.specs.Step.{stepped}
 use Rattle.row.specs.Row.{preceded, andThen, inTurn, marksOf, unlessRefused, rowed, misfit, rowInto}
 use Rattle.job_format.specs.Format.{Limits, Job}
 use Rattle.job.specs.Printout.{searchTerms, jobLines}
-use Rattle.whole.specs.Windowed.{windowed, framed, unframed}
+use Rattle.whole.specs.Windowed.{framed, unframed}
 
 -- ---- one axis
 

@@ -1,13 +1,12 @@
 -- The window of an accepted surface: it lies in the knot domain, and its grid lies in it. Assumes nothing.
-use mathlib.Core.Path.{_≡_, refl, sym, ap, _∙_}
+use mathlib.Core.Path.{_≡_, refl, ap, _∙_}
 use mathlib.Core.Bool.{Bool, true, false, not, cond}
-use mathlib.Core.List.{List, List·Memᴰ}
+use mathlib.Core.List.{List·Memᴰ}
 use native.Mathlib.Omega.{arith}
 use lib.Ieee.{Float, lt, le}
 use borrow.Author.Tests.{not-false}
 use Rattle.float64.specs.Functions.{isFinite, clamp}
 use Rattle.float64.specs.Order.{neither, le-refl, le→number, lt→le, le-not-lt, finite→number}
-use Rattle.spline.specs.Knots.{Axis}
 use Rattle.spline.specs.KnotLaws.{accepted}
 use Rattle.patch.specs.declared.Jet.{Jet}
 use Rattle.patch.specs.declared.Evaluated.the-variants.{Found}
@@ -22,14 +21,14 @@ use Rattle.surface.specs.SurfaceLaws.{AcceptedSurface}
 use Rattle.surface.specs.EvaluateLaws.{evaluate-parameters}
 use Rattle.surface.specs.Doubles.{Doubled}
 use Rattle.newton.specs.Run.{clampInto}
-use Rattle.grid.specs.Axis as Axis
+use Rattle.grid.specs.Axis as Grid
 use Rattle.window.specs.Values.{valuesU, valuesV}
-use Rattle.window.specs.ValueLaws.{clamp-keeps}
+use Rattle.window.specs.ValueLaws.{either-fits, clamp-keeps}
 
 -- ---- one axis
 
 -- an interval in another
-abbrev pub In : Interval → Interval → Type 0
+abbrev In : Interval → Interval → Type 0
 In i w = (lt (w .low) (w .high) ≡ true) × (le (i .low) (w .low) ≡ true) × (le (w .high) (i .high) ≡ true)
 
 module _ (i : Interval) (wide : lt (i .low) (i .high) ≡ true) where
@@ -58,9 +57,22 @@ module _ (i : Interval) (wide : lt (i .low) (i .high) ≡ true) where
       by true r l u = whole-in
       by false r l u = (r, l, u)
 
-either-double : (p : Bool) (x y : Float) → Double x → Double y → Double (cond p x y)
-either-double true x y f g = f
-either-double false x y f g = g
+-- doubles at both ends
+abbrev Ends : Interval → Type 0
+Ends i = Double (i .low) × Double (i .high)
+
+window-double : (i : Interval) (lo hi : Float) → Ends i → Double lo → Double hi → Ends (windowOn i lo hi)
+unfolding windowOn
+window-double i lo hi e f g = (either-fits (i .periodic) (i .low) lo (e .0) f, either-fits (i .periodic) (i .high) hi (e .1) g)
+
+-- what a clamp keeps
+clamped-to : (i : Interval) (t : Float) → clamp t (i .low) (i .high) ≡ t → clampInto i t ≡ t
+unfolding clampInto
+clamped-to i t e = by (i .periodic)
+  where
+    by : (p : Bool) → cond p t (clamp t (i .low) (i .high)) ≡ t
+    by true = refl
+    by false = e
 
 -- ---- both
 
@@ -75,52 +87,37 @@ module _ (d : Domain) where
   both-in wu wv Whole h = (whole-in (d .u) wu, whole-in (d .v) wv)
   both-in wu wv (Within a b c e) h = let t = neither _ _ h in (window-in (d .u) wu a b (t .0), window-in (d .v) wv c e (t .1))
 
-  -- doubles at both ends
-  abbrev Ends : Interval → Type 0
-  Ends i = Double (i .low) × Double (i .high)
-
   both-double : Ends (d .u) → Ends (d .v) → (w : Window) → DoubleWindow w → Ends (windowIn w d .u) × Ends (windowIn w d .v)
-  unfolding windowIn windowOn
+  unfolding windowIn
   both-double u v Whole f = (u, v)
-  both-double u v (Within a b c e) f = (
-    (either-double (d .u .periodic) _ _ (u .0) (f .0), either-double (d .u .periodic) _ _ (u .1) (f .1)),
-    (either-double (d .v .periodic) _ _ (v .0) (f .2), either-double (d .v .periodic) _ _ (v .1) (f .3)),
-  )
+  both-double u v (Within a b c e) f = (window-double (d .u) a b u (f .0) (f .1), window-double (d .v) c e v (f .2) (f .3))
 
 module _ (s : Surface) (ok : AcceptedSurface s) where
   in-domain : In (domainOf s .u) (windowOf s .u) × In (domainOf s .v) (windowOf s .v)
   in-domain = both-in (domainOf s) (accepted (axisU s) (ok .knots-u) .wide) (accepted (axisV s) (ok .knots-v) .wide) (s .shape .window) (ok .window)
 
   -- the window lies in the knot domain, its low below its high
-  pub window-within-u : Axis.Within (axisU s) (windowOf s .u .low) (windowOf s .u .high)
+  pub window-within-u : Grid.Within (axisU s) (windowOf s .u .low) (windowOf s .u .high)
   window-within-u = in-domain .0
 
-  pub window-within-v : Axis.Within (axisV s) (windowOf s .v .low) (windowOf s .v .high)
+  pub window-within-v : Grid.Within (axisV s) (windowOf s .v .low) (windowOf s .v .high)
   window-within-v = in-domain .1
 
   -- ---- the grid
 
   module _ (doubles : Doubled s) where
-    window-doubles : Ends (domainOf s) (windowOf s .u) × Ends (domainOf s) (windowOf s .v)
+    window-doubles : Ends (windowOf s .u) × Ends (windowOf s .v)
     window-doubles =
         let A = accepted (axisU s) (ok .knots-u) in
         let B = accepted (axisV s) (ok .knots-v) in
         both-double (domainOf s) (doubles .u _ (omega (arith, A .count)), doubles .u _ (omega (arith, A .count))) (doubles .v _ (omega (arith, B .count)), doubles .v _ (omega (arith, B .count))) (s .shape .window) (doubles .window)
 
     -- a grid value at which an evaluation succeeds is clamped to itself
-    clamped : (i : Interval) (t : Float) → clamp t (i .low) (i .high) ≡ t → clampInto i t ≡ t
-    unfolding clampInto
-    clamped i t e = by (i .periodic)
-      where
-        by : (p : Bool) → cond p t (clamp t (i .low) (i .high)) ≡ t
-        by true = refl
-        by false = e
-
     pub grid-clamped : (m u v : Float) (j : Jet) → evaluateBy s m u v ≡ Found j → List·Memᴰ u (valuesU s) → List·Memᴰ v (valuesV s)
         → (clampInto (windowOf s .u) u ≡ u) × (clampInto (windowOf s .v) v ≡ v)
     grid-clamped m u v j e mu mv =
         let f = evaluate-parameters s m u v j e in
         let w = window-doubles in (
-          clamped (windowOf s .u) u (clamp-keeps (axisU s) (ok .knots-u) _ _ window-within-u (doubles .u) (w .0 .0) (w .0 .1) u mu (f .0)),
-          clamped (windowOf s .v) v (clamp-keeps (axisV s) (ok .knots-v) _ _ window-within-v (doubles .v) (w .1 .0) (w .1 .1) v mv (f .1)),
+          clamped-to (windowOf s .u) u (clamp-keeps (axisU s) (ok .knots-u) _ _ window-within-u (doubles .u) (w .0 .0) (w .0 .1) u mu (f .0)),
+          clamped-to (windowOf s .v) v (clamp-keeps (axisV s) (ok .knots-v) _ _ window-within-v (doubles .v) (w .1 .0) (w .1 .1) v mv (f .1)),
         )

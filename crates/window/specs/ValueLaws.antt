@@ -4,10 +4,10 @@ use mathlib.Core.Path.{_≡_, _∙_}
 use mathlib.Core.Logic.{inl, inr}
 use mathlib.Core.Bool.{Bool, true, false, cond}
 use mathlib.Core.List.{List, [], _∷_, _++_, List·Memᴰ, List·Memᴰ·head, List·Memᴰ·tail, List·Memᴰ·append-cases, List·Memᴰ·eq-of-singleton}
-use Prim.Native.Nat.{ℕ, zero, suc, _+_, _-_, _≤_, _<_}
+use Prim.Native.Nat.{ℕ, zero, suc, _+_, _-_, _≤_}
 use native.Mathlib.Omega.{arith}
 use lib.Dec.{T}
-use lib.ListN.{length, getD}
+use lib.ListN.{length}
 use lib.Ieee.{Float, nan, binary64, lt, le, eq, fits}
 use Rattle.float64.specs.Functions.{isFinite, clamp}
 use Rattle.float64.specs.Order.{le-trans, le-refl, le→number, lt→le, le→not-lt, eq→le, eq-sym, le-eq}
@@ -46,7 +46,7 @@ fit-fresh z (x ∷ xs) (more h c) = by (eq z x) (fit-fresh z xs c) (fit-fresh x 
     by true p q = p
     by false p q = more h q
 
-either-fits : (t : Bool) (x y : Float) → T (fits binary64 x) → T (fits binary64 y) → T (fits binary64 (cond t x y))
+pub either-fits : (t : Bool) (x y : Float) → T (fits binary64 x) → T (fits binary64 y) → T (fits binary64 (cond t x y))
 either-fits true x y f g = f
 either-fits false x y f g = g
 
