@@ -1,4 +1,6 @@
 // Text put into a lent buffer from an index on: bytes as they are, and numbers by their digits. Each call answers where the next text goes.
+#![tactic(auto)]
+
 ghost use Rattle.std.specs.Prelude.{◌≡◌, ◌+◌, ◌≤◌, ◌<◌, length};
 ghost use Rattle.digits.specs.Text.{Put, digit, digits, places_in, decimal, hex16, written};
 

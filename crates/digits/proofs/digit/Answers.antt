@@ -1,0 +1,12 @@
+-- `digits::digit` meets its contract, by the same test as the definition. Assumes nothing.
+use borrow.Author.Tests.{lt-ltb, le-ltb}
+use Rattle.digits.specs.Text.{digit}
+use Rattle.digits.proofs.digit.Goals as goal
+
+pub returns-then-d-lt10 : goal.returns-then-d-lt10
+unfolding digit
+returns-then-d-lt10 c = simp (lt-ltb _ _ c.if-d-lt10.true)
+
+pub returns-else-d-lt10 : goal.returns-else-d-lt10
+unfolding digit
+returns-else-d-lt10 c = simp (le-ltb _ _ c.if-d-lt10.false)
