@@ -1,4 +1,6 @@
 // Stored answers: words that hold the bits of floats.
+#![tactic(auto)]
+
 ghost use Rattle.std.specs.Prelude.{◌≡◌};
 ghost use Rattle.answers.specs.Stored.{same_bits, same_list, is_refusal, is_answer};
 

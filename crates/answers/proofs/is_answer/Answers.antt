@@ -11,8 +11,7 @@ use lib.Ieee.{Float}
 use borrow.Author.Rules.{rules}
 use borrow.Author.Tests.{eq-eqb, ne_eqb}
 use Rattle.answers.specs.Stored.{same_list, is_answer}
-use Rattle.answers.proofs.is_answer.Statement.{statement}
-use Rattle.answers.proofs.is_answer.Tie as tie
+use Rattle.answers.proofs.is_answer.Goals as goal
 
 module _ (xs : List Float) where
   nothing : (ws : List ℕ) → length ws ≡ 0 → false ≡ is_answer xs ws
@@ -25,25 +24,12 @@ module _ (xs : List Float) where
   apart [] h = absurd (omega arith)
   apart (w ∷ ws) h = rw (take_all (length (w ∷ ws) - 1) ws (omega arith))
 
-returns : tie.Need-returns
-returns c = nothing _ _ (search rules)
+pub returns-then-answer-eq0 : goal.returns-then-answer-eq0
+returns-then-answer-eq0 c = nothing _ _ (search rules)
 
-returns-2 : tie.Need-returns-2
-returns-2 c = sym (apart _ _ (omega arith) ∙ simp (ne_eqb _ _ c.if2.true))
+pub returns-then-answer-ne0 : goal.returns-then-answer-ne0
+returns-then-answer-ne0 c = sym (apart _ _ (omega arith) ∙ simp (ne_eqb _ _ c.if-answer-ne0.true))
 
-returns-3 : tie.Need-returns-3
-returns-3 c =
-    sym (apart _ _ (omega arith) ∙ simp (eq-eqb _ _ c.before.before.if2.false, sym c.same-list.ensures))
-
-pub is-answer-spec : {M : Type 1} → statement M
-is-answer-spec =
-    tie.close
-    (tie.spec
-    returns
-    (λ c. search rules)
-    returns-2
-    (λ c. search rules)
-    (λ c. search rules)
-    (λ c. search rules)
-    (λ c κs. search rules)
-    returns-3)
+pub returns : goal.returns
+returns c =
+    sym (apart _ _ (omega arith) ∙ simp (eq-eqb _ _ c.if-answer-ne0.false, sym c.same_list.ensures))

@@ -4,10 +4,8 @@ use mathlib.Core.Bool.{true, false}
 use Prim.Native.Nat.{◌*◌}
 use lib.Ieee.{Float, nan, inf, fin, ne, eq, is_nan, up, down}
 use borrow.Author.Tests.{eq-eqb}
-use borrow.Author.Rules.{rules}
 use Rattle.answers.specs.Stored.{same_bits}
-use Rattle.answers.proofs.same.Statement.{statement}
-use Rattle.answers.proofs.same.Tie as tie
+use Rattle.answers.proofs.same.Goals as goal
 
 ne-is_nan : (x : Float) → ne x x ≡ is_nan x
 unfolding ne eq is_nan
@@ -17,16 +15,13 @@ ne-is_nan (inf false) = refl
 ne-is_nan (fin true m e) = simp (eq-eqb (m * up e * down e) (m * up e * down e) refl)
 ne-is_nan (fin false m e) = simp (eq-eqb (m * up e * down e) (m * up e * down e) refl)
 
-returns : tie.Need-returns
+pub returns-then-x : goal.returns-then-x
 unfolding same_bits
-returns c = simp (← ne-is_nan, c.before.if1.true) c.is-nan.ensures
+returns-then-x c = simp (← ne-is_nan, c.if-x.true) c.is_nan.ensures
 
-float-to-bits-result : tie.Need-float-to-bits-result
-float-to-bits-result c = simp (← ne-is_nan, c.if1.false) tt
+pub float_to_bits-result : goal.float_to_bits-result
+float_to_bits-result c = simp (← ne-is_nan, c.if-x.false) tt
 
-returns-2 : tie.Need-returns-2
+pub returns : goal.returns
 unfolding same_bits
-returns-2 c = simp (← ne-is_nan, c.if1.false)
-
-pub same_spec : {M : Type 1} → statement M
-same_spec = tie.close (tie.spec (λ c κs. search rules) returns float-to-bits-result returns-2)
+returns c = simp (← ne-is_nan, c.if-x.false)

@@ -8,8 +8,7 @@ use lib.Dec.{eqb}
 use lib.ListN.{length, get_or}
 use borrow.Author.Rules.{rules}
 use Rattle.answers.specs.Stored.{is_refusal}
-use Rattle.answers.proofs.is_refusal.Statement.{statement}
-use Rattle.answers.proofs.is_refusal.Tie as tie
+use Rattle.answers.proofs.is_refusal.Goals as goal
 
 module _ (n : ℕ) where
   other : (ws : List ℕ) → (length ws ≡ 1 → ⊥) → false ≡ is_refusal n ws
@@ -24,11 +23,8 @@ module _ (n : ℕ) where
   alone (w ∷ []) h = refl
   alone (w ∷ v ∷ ws) h = absurd (omega arith)
 
-returns : tie.Need-returns
-returns c = other _ _ (search rules)
+pub returns-then-answer-ne1 : goal.returns-then-answer-ne1
+returns-then-answer-ne1 c = other _ _ (search rules)
 
-returns-2 : tie.Need-returns-2
-returns-2 c = alone _ _ (search rules)
-
-pub is-refusal-spec : {M : Type 1} → statement M
-is-refusal-spec = tie.close (tie.spec returns (λ c. search rules) returns-2)
+pub returns : goal.returns
+returns c = alone _ _ (search rules)
