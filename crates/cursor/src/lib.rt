@@ -1,16 +1,18 @@
 // A cursor over the words of a record. Each take tests that the record holds what is taken.
+#![tactic(auto)]
+
 ghost use Rattle.std.specs.Prelude.{◌≡◌, true, ◌-◌, ◌≤◌, length, take, drop};
 ghost use Rattle.cursor.specs.Cursors.{Within, nothing, taken, word_at, numbers_at};
 
 // Not sound from the first take on that the record doesn't hold.
-#[derive(Drop)]
+#[derive(Clone, Copy)]
 pub struct Cursor {
     pub at: usize,
     pub sound: bool,
 }
 
 // The words from one index up to another. None where the cursor is not sound.
-#[derive(Drop)]
+#[derive(Clone, Copy)]
 pub struct Part {
     pub from: usize,
     pub to: usize,
@@ -18,7 +20,7 @@ pub struct Part {
 }
 
 // 0 where the cursor is not sound.
-#[derive(Drop)]
+#[derive(Clone, Copy)]
 pub struct Word {
     pub value: u64,
     pub next: Cursor,

@@ -4,13 +4,12 @@ use mathlib.Core.Bool.{true, false, ◌&&◌}
 use Prim.Native.Nat.{ℕ, ◌+◌, ◌≤◌, ◌<◌}
 use native.Mathlib.Omega.{arith}
 use lib.Dec.{leb}
-use borrow.Author.Rules.{rules}
+use lib.ListN.{length}
 use borrow.Author.Tests.{not-true, not-false, le-leb, lt-leb}
 use Rattle.cursor.specs.declared.Cursor.{Cursor}
 use Rattle.cursor.specs.declared.Part.{Part}
 use Rattle.cursor.specs.Cursors.{Within, nothing, taken}
-use Rattle.cursor.proofs.Cursor.take.Statement.{statement}
-use Rattle.cursor.proofs.Cursor.take.Tie as tie
+use Rattle.cursor.proofs.Cursor.take.Goals as goal
 
 module _ (n size : ℕ) (c : Cursor) where
   none : (p : Part) → p ≡ nothing → (c.sound && leb (c.at + n) size) ≡ false → (p ≡ taken n size c) × Within size p
@@ -27,29 +26,24 @@ module _ (n size : ℕ) (c : Cursor) where
   unfolding taken
   held s h = simp (s, le-leb _ _ h)
 
-returns : tie.Need-returns
-returns c = unsound _ _ _ _ c.nothing.ensures (not-true _ c.before.if1.true)
+pub returns-then-not-self : goal.returns-then-not-self
+returns-then-not-self c =
+    let e = unsound c.args.count (length c.args.words.now) c.args.self _ c.nothing.ensures (not-true _ c.if-not-self.true) in
+    record { value = e.0; within = e.1 }
 
-returns-2 : tie.Need-returns-2
-returns-2 c = beyond _ _ _ _ c.nothing2.ensures (not-false _ c.before.before.if1.false) (omega arith)
+pub returns-then-words-at : goal.returns-then-words-at
+returns-then-words-at c =
+    let e = beyond c.args.count (length c.args.words.now) c.args.self _ c.nothing-then-words-at.ensures (not-false _ c.if-not-self.false) (omega arith) in
+    record { value = e.0; within = e.1 }
 
-returns-3 : tie.Need-returns-3
-returns-3 c = beyond _ _ _ _ c.nothing3.ensures (not-false _ c.before.before.before.if1.false) (omega arith)
+pub returns-then-words-at-2 : goal.returns-then-words-at-2
+returns-then-words-at-2 c =
+    let e = beyond c.args.count (length c.args.words.now) c.args.self _ c.nothing-then-words-at-2.ensures (not-false _ c.if-not-self.false) (omega arith) in
+    record { value = e.0; within = e.1 }
 
-returns-4 : tie.Need-returns-4
-returns-4 c =
-    (held _ _ _ (not-false _ c.before.before.if1.false) (omega arith), record { ordered = omega arith; inside = omega arith; after = refl })
-
-pub take_spec : {M : Type 1} → statement M
-take_spec =
-    tie.close
-    (tie.spec
-    (λ c κs. search rules)
-    returns
-    (λ c κs. search rules)
-    returns-2
-    (λ c. search rules)
-    (λ c κs. search rules)
-    returns-3
-    (λ c. search rules)
-    returns-4)
+pub returns : goal.returns
+returns c =
+    record {
+      value = held _ _ _ (not-false _ c.if-not-self.false) (omega arith);
+      within = record { ordered = omega arith; inside = omega arith; after = refl };
+    }
