@@ -1,4 +1,6 @@
 // The lines of a printout, put into a lent buffer from an index on. Each call answers where the next line goes.
+#![tactic(auto)]
+
 ghost use Rattle.std.specs.Prelude.{◌≡◌, false, ◌+◌, ◌≤◌, ◌<◌, length};
 ghost use Rattle.std.specs.Float.Ieee.{is_nan};
 ghost use Rattle.digits.specs.Text.{Put};
