@@ -1,4 +1,6 @@
 // The functions of a B-spline basis that are not zero at a parameter, with their first and second derivatives.
+#![tactic(auto)]
+
 mod values;
 
 ghost use Rattle.std.specs.Prelude.{◌≡◌, ◌+◌, ◌≤◌, ◌<◌, suc, length};
@@ -11,7 +13,7 @@ use spline::{KnotSide, Snapped};
 pub use values::{tabulate_firsts, tabulate_values};
 
 // The values, first and second derivatives of the degree + 1 functions from `start` on; nothing of it counts where it is not found.
-#[derive(Drop)]
+#[derive(Clone, Copy)]
 pub struct Basis {
     pub found: bool,
     pub start: usize,
@@ -21,7 +23,7 @@ pub struct Basis {
 }
 
 // A function's value, first and second derivative.
-#[derive(Drop)]
+#[derive(Clone, Copy)]
 pub(crate) struct Entry {
     pub value: f64,
     pub first: f64,
@@ -29,14 +31,14 @@ pub(crate) struct Entry {
 }
 
 // Where the functions start, if they are found.
-#[derive(Drop)]
+#[derive(Clone, Copy)]
 pub struct Place {
     pub found: bool,
     pub start: usize,
 }
 
 // A function's terms in the sums of the next degree: rising in the one at its own index, falling in the one before.
-#[derive(Drop)]
+#[derive(Clone, Copy)]
 pub(crate) struct Term {
     pub present: bool,
     pub rising: f64,

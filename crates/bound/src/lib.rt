@@ -1,4 +1,6 @@
 // Whether knots are such that no number of their basis can overflow.
+#![tactic(auto)]
+
 ghost use Rattle.std.specs.Prelude.{◌≡◌, true, ℕ, ◌<◌, length};
 ghost use Rattle.spline.specs.Knots.{axis, refusal_of_knots};
 ghost use Rattle.basis.specs.Magnitude.{Bounded};

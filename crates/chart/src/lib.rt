@@ -1,4 +1,6 @@
 // A mark on the chart of a surface that passed its checks: check 7, the search, and the shift of its answer by periods.
+#![tactic(auto)]
+
 mod search;
 
 ghost use Rattle.std.specs.Prelude.{◌≡◌};
@@ -13,14 +15,14 @@ use search::{sound, turned};
 use vector3::Vector3;
 
 // The period of a chart's axis, which the surface's own flag says nothing of.
-#[derive(Drop)]
+#[derive(Clone, Copy)]
 pub enum Period {
     Free,
     Every(f64),
 }
 
 // What a search is given besides the mark: a hint, a tolerance, and the periods of u and v.
-#[derive(Drop)]
+#[derive(Clone, Copy)]
 pub struct Terms {
     pub hint: Hint,
     pub tolerance: f64,
@@ -29,7 +31,7 @@ pub struct Terms {
 }
 
 // The pair that a call answers, with its distance, how its run ended and where that came from, and the units taken; or the number of a refusal and the units taken.
-#[derive(Drop)]
+#[derive(Clone, Copy)]
 pub enum Placing {
     Pair(Choice, u64),
     Refusal(u64, u64),

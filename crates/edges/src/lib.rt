@@ -1,4 +1,6 @@
 // The edges of a surface's domain along which the surface is one point, within a tolerance.
+#![tactic(auto)]
+
 mod side;
 
 ghost use Rattle.std.specs.Prelude.{◌≡◌};
@@ -13,7 +15,7 @@ use surface::{Checked, check};
 use vector3::Vector3;
 
 // The parameter across axis k has the value. The surface lies at larger ones where side is 1, at smaller ones where it is -1.
-#[derive(Drop)]
+#[derive(Clone, Copy)]
 pub struct Singular {
     pub k: u64,
     pub value: f64,
@@ -21,14 +23,14 @@ pub struct Singular {
     pub side: f64,
 }
 
-#[derive(Drop)]
+#[derive(Clone, Copy)]
 pub enum Edge {
     Open,
     Collapsed(Singular),
 }
 
 // The edges along u at the lower and upper end of v, then those along v at the ends of u; or the number of a refusal.
-#[derive(Drop)]
+#[derive(Clone, Copy)]
 pub enum Edges {
     Found(Edge, Edge, Edge, Edge),
     Refusal(u64),

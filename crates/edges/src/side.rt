@@ -11,7 +11,7 @@ use surface::surface_jet;
 use vector3::{Vector3, distance};
 
 // The domain along axis k, 0 for u and 1 for v, where the parameter across it has the value.
-#[derive(Drop)]
+#[derive(Clone, Copy)]
 pub struct Line {
     pub k: u64,
     pub along: Interval,

@@ -1,4 +1,5 @@
 pub mod Small
+pub mod RoundLaws
 pub mod Patterns
 pub mod Rounded
 pub mod Digits

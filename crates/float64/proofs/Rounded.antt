@@ -16,7 +16,7 @@ use lib.Ieee.Nearest.{div_same}
 use lib.Ieee.Bits.{of_bits-to_bits}
 use Rattle.float64.specs.Units.{double, units-exact}
 use Rattle.float64.specs.Functions.{round_away, units_of}
-use Rattle.float64.specs.RoundLaws.{nearest_whole, whole-itself, round-away-value, round-away-inf}
+use Rattle.float64.proofs.RoundLaws.{nearest_whole, whole-itself, round-away-value, round-away-inf}
 use Rattle.float64.specs.Order.{finite→number}
 use Rattle.float64.specs.RemainderLaws.{finite-of-value}
 use Rattle.float64.proofs.Small.{number}

@@ -9,5 +9,4 @@ pub mod Nonneg
 pub mod Differences
 pub mod Magnitude
 pub mod RootLaws
-pub mod RoundLaws
 pub mod RemainderLaws

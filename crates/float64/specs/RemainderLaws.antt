@@ -118,6 +118,8 @@ sum-once f (fin true m e) n d a b c C (_, h) (_, k) less =
     rw (lt-ltb A B (over-lt (m * up e) (down e) (n * up d) (down d) a b c (down_pos e) (down_pos d) h k less))
     (round_same f false (B - A) z (b - a) c (mul-pos (down_pos e) (down_pos d)) C (simp (sub-mul, p, q)))
 sum-once f (fin false m e) n d a b c C (h, _) k less = absurd (false≢true h)
+sum-once f nan n d a b c C x5 k less = elim x5 [ ]
+sum-once f (inf _) n d a b c C x7 k less = elim x7 [ ]
 
 -- ±a / c is below b / c
 under : (x : Float) (s : Bool) (n : ℕ) (d : ℤ) (a b c : ℕ) → HasValue x s a c → HasValue (fin false n d) false b c → a < b → lt x (fin false n d) ≡ true
@@ -126,6 +128,8 @@ under (fin true m e) s n d a b c h k less =
     lt-ltb 0 (m * up e * down d + n * up d * down e) (omega (arith, over-lt (m * up e) (down e) (n * up d) (down d) a b c (down_pos e) (down_pos d) h.1 k.1 less))
 under (fin false m e) s n d a b c h k less =
     lt-ltb (m * up e * down d) (n * up d * down e) (over-lt (m * up e) (down e) (n * up d) (down d) a b c (down_pos e) (down_pos d) h.1 k.1 less)
+under nan s n d a b c h k less = elim h [ ]
+under (inf _) s n d a b c h k less = elim h [ ]
 
 zero-size : (x a c d : ℕ) → 0 < c → x * c ≡ a * d → a ≡ 0 → x ≡ 0
 zero-size x a c d C h z = eq_of_mul-eq-mul_right c C x 0 (h ∙ simp (z, zero-mul))
@@ -135,11 +139,15 @@ unfolding lt of_bits
 not-below (fin true m e) s a c C (h, k) (inl z) = absurd (true≢false (h ∙ z))
 not-below (fin true m e) s a c C (h, k) (inr z) = le-ltb 0 (m * up e * 1 + 0 * 1 * down e) (omega (arith, zero-size (m * up e) a c (down e) C k z))
 not-below (fin false m e) s a c C h o = le-ltb (m * up e * 1) (0 * 1 * down e) (omega arith)
+not-below nan s a c C h o = elim h [ ]
+not-below (inf _) s a c C h o = elim h [ ]
 
 below : (x : Float) (a c : ℕ) → HasValue x true a c → 0 < a → lt x 0· ≡ true
 unfolding lt of_bits
 below (fin true m e) a c (_, h) A = lt-ltb 0 (m * up e * 1 + 0 * 1 * down e) (omega (arith, first_pos (m * up e) c (subst (λ (z : ℕ). 0 < z) (sym h) (mul-pos A (down_pos e)))))
 below (fin false m e) a c (h, _) A = absurd (false≢true h)
+below nan a c x3 A = elim x3 [ ]
+below (inf _) a c x5 A = elim x5 [ ]
 
 finite-of-le : (x y : Float) (a c : ℕ) → lt x 0· ≡ false → HasValue y false a c → T (le x y) → is_finite x ≡ true
 unfolding is_finite lt le of_bits
@@ -147,10 +155,14 @@ finite-of-le nan y a c n h l = absurd l
 finite-of-le (inf true) y a c n h l = absurd (true≢false n)
 finite-of-le (inf false) (fin s m e) a c n h l = absurd l
 finite-of-le (fin s m e) y a c n h l = refl
+finite-of-le (inf false) nan a c n h l = elim h [ ]
+finite-of-le (inf false) (inf _) a c n h l = elim h [ ]
 
 pub finite-of-value : (x : Float) (s : Bool) (a c : ℕ) → HasValue x s a c → is_finite x ≡ true
 unfolding is_finite
 finite-of-value (fin t m e) s a c h = refl
+finite-of-value nan s a c h = elim h [ ]
+finite-of-value (inf _) s a c h = elim h [ ]
 
 -- what is not larger than a double doesn't round to more
 rounds-below : (t : Bool) (n : ℕ) (d : ℤ) (a c : ℕ) → T (fits binary64 (fin t n d)) → 0 < c → a * down d ≤ n * up d * c → T (le (round binary64 false a c) (fin false n d))

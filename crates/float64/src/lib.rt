@@ -1,4 +1,6 @@
 // The methods of Rust's f64 that the port uses. Each answers for every f64, NaN and infinities included.
+#![tactic(auto)]
+
 mod bits;
 mod integral;
 mod remainder;

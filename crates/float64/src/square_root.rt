@@ -11,14 +11,14 @@ use crate::bits::{FIELD, missing};
 const HALF: u64 = 0x0800_0000;
 
 // A significand of 53 binary digits, times 2 ^ (exponent - 54) of the smallest doubles.
-#[derive(Drop)]
+#[derive(Clone, Copy)]
 struct Scaled {
     significand: u64,
     exponent: u64,
 }
 
 // A square in two parts.
-#[derive(Drop)]
+#[derive(Clone, Copy)]
 struct Square {
     high: u64,
     low: u64,

@@ -1,4 +1,6 @@
 // The grid's values on an axis of accepted knots, in a window of the domain: every span between the window's ends and the knots between them in eighths. And how many there are.
+#![tactic(auto)]
+
 ghost use Rattle.std.specs.Prelude.{◌≡◌, not, cond, ◌&&◌, [], ◌∷◌, ◌++◌, ◌+◌, ◌≤◌, ◌<◌, length, take};
 ghost use Rattle.std.specs.Float.Ieee.{eq};
 ghost use Rattle.spline.specs.Knots.{axis, refusal_of_knots};
@@ -8,13 +10,13 @@ ghost use Rattle.grid.specs.AxisLaws.{is_inner, inner_within, values_for};
 use domain::eighth;
 
 // The breaks of an axis from which its values are made, and the values themselves.
-#[derive(Drop)]
+#[derive(Clone, Copy)]
 pub struct Breaks {
     pub at: [f64; 25],
     pub count: usize,
 }
 
-#[derive(Drop)]
+#[derive(Clone, Copy)]
 pub struct Values {
     pub at: [f64; 193],
     pub count: usize,

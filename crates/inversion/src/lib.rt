@@ -1,4 +1,6 @@
 // The inversion of a surface that passed its checks: the parameters of the surface point nearest to a mark.
+#![tactic(auto)]
+
 mod explore;
 mod search;
 
@@ -14,28 +16,28 @@ use newton::{End, Outcome, run};
 use scaled::Accepted;
 use vector3::Vector3;
 
-#[derive(Drop)]
+#[derive(Clone, Copy)]
 pub enum Hint {
     Nothing,
     At(f64, f64),
 }
 
 // The run that is chosen: its end, and where it came from, 0 for the hint, 1 to 6 for the place of its start among the starts.
-#[derive(Drop)]
+#[derive(Clone, Copy)]
 pub struct Choice {
     pub end: End,
     pub origin: u8,
 }
 
 // The nearest so far.
-#[derive(Drop)]
+#[derive(Clone, Copy)]
 pub enum Best {
     Nothing,
     At(Choice),
 }
 
 // By what a budget makes of it: the choice and the units taken; refused after so many; or no unit was left.
-#[derive(Drop)]
+#[derive(Clone, Copy)]
 pub enum Answer {
     Chosen(Choice, u64),
     Refused(u64),
@@ -43,7 +45,7 @@ pub enum Answer {
 }
 
 // What was done before: the nearest so far, the units taken, and those of the hint's run, which are charged again at the end.
-#[derive(Drop)]
+#[derive(Clone, Copy)]
 pub struct Lead {
     pub best: Best,
     pub taken: u64,

@@ -10,7 +10,7 @@ use Rattle.std.specs.Float.Ieee.Fits.{div-fits}
 use borrow.Author.Tests.{leb-true, leb-false}
 use Rattle.float64.specs.Operators.{◌⊕◌, ◌⊖◌, ◌⊗◌, ◌⊘◌}
 use Rattle.float64.specs.Functions.{round_away}
-use Rattle.float64.specs.RoundLaws.{round-away-twice}
+use Rattle.float64.proofs.RoundLaws.{round-away-twice}
 use Rattle.vector3.specs.declared.Vector3.{Vector3}
 use Rattle.surface.specs.declared.Checked.{Checked}
 use Rattle.surface.specs.declared.Checked.TheVariants as Check

@@ -1,4 +1,6 @@
 // The calls that place a mark. Each tests its own input.
+#![tactic(auto)]
+
 mod plane;
 mod preimage;
 
@@ -16,7 +18,7 @@ use scaled::{Acceptance, accept};
 use vector3::Vector3;
 
 // What a call of one unit answers: the components of a vector along two others; or the number of a refusal and the units taken.
-#[derive(Drop)]
+#[derive(Clone, Copy)]
 pub enum Components {
     Along(f64, f64),
     Refusal(u64, u64),

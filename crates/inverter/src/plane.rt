@@ -6,7 +6,7 @@ use crate::Components;
 use vector3::{Vector3, dot, finite_vector, sub};
 
 // An origin and two axes, taken as they are lent.
-#[derive(Drop)]
+#[derive(Clone, Copy)]
 pub struct Frame {
     pub origin: Vector3,
     pub x: Vector3,

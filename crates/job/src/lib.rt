@@ -1,4 +1,6 @@
 // From a job file's bytes to its printout's, in lent buffers.
+#![tactic(auto)]
+
 mod marks;
 mod surfaces;
 

@@ -16,7 +16,7 @@ use row_step::{Progress, Stepped, step};
 use scaled::Accepted;
 
 // What is carried to the first mark, where its record starts, and how many marks there are.
-#[derive(Drop)]
+#[derive(Clone, Copy)]
 pub(crate) struct Queue {
     pub progress: Progress,
     pub first: usize,

@@ -1,4 +1,6 @@
 // The job file: where its records stand, and its numbers as floats.
+#![tactic(auto)]
+
 ghost use Rattle.std.specs.Prelude.{◌≡◌, true, cond, [], ◌∷◌, ◌++◌, ◌+◌, ◌*◌, ◌^◌, ◌≤◌, ◌<◌, length, drop, get_or};
 ghost use Rattle.domain.specs.declared.Window.TheVariants.{Whole};
 ghost use Rattle.job_format.specs.Format.{most_bytes, header_size, window_size, mark_size, malformed, read, mark, counts, knots, controls, mark_records, after_surface, after_header, parse};
@@ -19,7 +21,7 @@ pub const TERMS_SIZE: usize = 18;
 
 pub const MARK_SIZE: usize = 26;
 
-#[derive(Drop)]
+#[derive(Clone, Copy)]
 pub enum Layout {
     Malformed,
     // The surface's shape, and how many marks there are.
@@ -27,7 +29,7 @@ pub enum Layout {
 }
 
 // The shape, its window whole as yet, and whether a window follows the weights.
-#[derive(Drop)]
+#[derive(Clone, Copy)]
 struct Header {
     shape: Shape,
     windowed: bool,

@@ -10,7 +10,7 @@ use quotation::Quotation;
 use surface::Evaluation;
 
 // Two numbers and the units taken; or the number of a refusal and the units taken.
-#[derive(Drop)]
+#[derive(Clone, Copy)]
 pub enum Answer {
     Pair(f64, f64, u64),
     Refusal(u64, u64),

@@ -1,4 +1,6 @@
 // How an answer is written to what a caller of the library lends.
+#![tactic(auto)]
+
 mod answers;
 mod ends;
 

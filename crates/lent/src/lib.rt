@@ -1,4 +1,6 @@
 // What a caller of the library lends: how its numbers are read, and whether they fit.
+#![tactic(auto)]
+
 ghost use Rattle.std.specs.Prelude.{◌≡◌};
 ghost use Rattle.lent.specs.Lent.{window_from, hint_of, period_of, terms_of, sound_flags, sound_window, sound_surface, sound_options, roomy, roomy_row, roomy_edges, fits_quote, fits_jet, fits_inversion, fits_row, fits_derivative, fits_edges, fits_job};
 

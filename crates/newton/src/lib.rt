@@ -1,4 +1,6 @@
 // One run of Gauss-Newton: from a start towards the surface point nearest to a mark.
+#![tactic(auto)]
+
 mod measure;
 mod number;
 mod round;
@@ -18,14 +20,14 @@ use scaled::{Accepted, scaled_jet};
 use vector3::Vector3;
 
 // A point's distance from the mark, and the roots that were taken up to it, its own included.
-#[derive(Drop)]
+#[derive(Clone, Copy)]
 pub struct Measured {
     pub distance: f64,
     pub roots: u64,
 }
 
 // A pair that a run evaluated, with its distance from the mark.
-#[derive(Drop)]
+#[derive(Clone, Copy)]
 pub struct Iterate {
     pub u: f64,
     pub v: f64,
@@ -33,7 +35,7 @@ pub struct Iterate {
 }
 
 // How a run ended: the next pair was the same, the next point was further, the last step was small, the pair was singular after a nudge, or no round was left.
-#[derive(Drop)]
+#[derive(Clone, Copy)]
 pub enum Ending {
     Unchanged,
     Further,
@@ -43,21 +45,21 @@ pub enum Ending {
 }
 
 // Where a run ended, and how.
-#[derive(Drop)]
+#[derive(Clone, Copy)]
 pub struct End {
     pub at: Iterate,
     pub ending: Ending,
 }
 
 // A run that came to an end, and the distance roots that it took.
-#[derive(Drop)]
+#[derive(Clone, Copy)]
 pub struct Finished {
     pub end: End,
     pub roots: u64,
 }
 
 // What a run holds from round to round: the pair, the jet there, whether it was nudged, and the distance roots that it took.
-#[derive(Drop)]
+#[derive(Clone, Copy)]
 pub struct Held {
     pub at: Iterate,
     pub jet: Jet,
@@ -66,21 +68,21 @@ pub struct Held {
 }
 
 // The step from a pair, where the determinant is not too small.
-#[derive(Drop)]
+#[derive(Clone, Copy)]
 pub enum Step {
     Singular,
     By(f64, f64),
 }
 
 // What a round does: it ends the run, or evaluates at a pair, which may be the nudge.
-#[derive(Drop)]
+#[derive(Clone, Copy)]
 pub enum Plan {
     Halt(Ending),
     Probe(bool, f64, f64),
 }
 
 // What came of the evaluation: the run keeps its pair, or moves to the next one and is over, or goes on from there.
-#[derive(Drop)]
+#[derive(Clone, Copy)]
 pub enum Verdict {
     Further,
     Last,
@@ -88,7 +90,7 @@ pub enum Verdict {
 }
 
 // By what a budget makes of it: the end with its roots, and the units taken; refused after so many; or no unit was left.
-#[derive(Drop)]
+#[derive(Clone, Copy)]
 pub enum Outcome {
     Ended(Finished, u64),
     Refused(u64),
@@ -96,7 +98,7 @@ pub enum Outcome {
 }
 
 // A round by what the budget makes of it: the run is over, or goes on.
-#[derive(Drop)]
+#[derive(Clone, Copy)]
 pub enum Turn {
     Over(Outcome),
     Onto(Held),

@@ -1,4 +1,6 @@
 // The homogeneous sums over the controls of a patch, and the rational quotient of them.
+#![tactic(auto)]
+
 ghost use Rattle.std.specs.Prelude.{cond, ◌≡◌};
 ghost use Rattle.patch.specs.Patch as Patch;
 
@@ -6,7 +8,7 @@ use float64::is_finite;
 use vector3::{Vector3, finite_vector};
 
 // A basis function's value, first and second derivative.
-#[derive(Drop)]
+#[derive(Clone, Copy)]
 pub struct Derivatives {
     pub value: f64,
     pub first: f64,
@@ -14,7 +16,7 @@ pub struct Derivatives {
 }
 
 // A sum of weights, and of the controls' coordinates by the same weights.
-#[derive(Drop)]
+#[derive(Clone, Copy)]
 pub struct Sum {
     pub w: f64,
     pub x: f64,
@@ -23,7 +25,7 @@ pub struct Sum {
 }
 
 // One for each derivative up to the second.
-#[derive(Drop)]
+#[derive(Clone, Copy)]
 pub struct Sums {
     pub value: Sum,
     pub u: Sum,
@@ -34,14 +36,14 @@ pub struct Sums {
 }
 
 // A surface point, and its derivatives along u and along v.
-#[derive(Drop)]
+#[derive(Clone, Copy)]
 pub struct Jet {
     pub point: Vector3,
     pub u: Vector3,
     pub v: Vector3,
 }
 
-#[derive(Drop)]
+#[derive(Clone, Copy)]
 pub enum Evaluated {
     Found(Jet),
     Refused,

@@ -1,5 +1,7 @@
 // The calls for C and Rust, on numbers and lent slices. Each tests every argument, answers the number of its refusal or 0, and writes the rest of its answer to the slices lent for it.
 // A surface is lent as the degrees (du, dv) and the counts of controls (nu, nv), the flags (1 where u is periodic, and 2 more where v is), the knots (ku, kv), the controls, the weights and the window: its lowest and highest u, then those of v, or no number for the whole domain.
+#![tactic(auto)]
+
 ghost use Rattle.std.specs.Prelude.{◌≡◌, length};
 ghost use Rattle.domain.specs.Flags.{shape_of};
 ghost use Rattle.surface.specs.Lent.{at_entry, bare_at_entry};

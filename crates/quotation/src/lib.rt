@@ -1,4 +1,6 @@
 // The largest price that an inversion on a surface can have, from its shape and its knots alone. Nothing is evaluated and nothing charged.
+#![tactic(auto)]
+
 ghost use Rattle.std.specs.Prelude.{◌≡◌, false, ◌≤◌};
 ghost use Rattle.surface.specs.Surface.{bare, too_large, refusal_of_axes};
 ghost use Rattle.surface.specs.Lent.{bare_at_entry};
@@ -9,13 +11,13 @@ use grid::count_values;
 use surface::{check_axes, too_large};
 
 // How many points the grid has, and what an inversion takes at most: with that budget it is never short of a unit.
-#[derive(Drop)]
+#[derive(Clone, Copy)]
 pub struct Costing {
     pub grid: u64,
     pub most: u64,
 }
 
-#[derive(Drop)]
+#[derive(Clone, Copy)]
 pub enum Quotation {
     Quoted(Costing),
     Refusal(u64),

@@ -1,4 +1,6 @@
 // Reads a job file from standard input and writes its quote.
+#![tactic(auto)]
+
 ghost use Rattle.std.specs.Prelude.{◌≡◌};
 ghost use Rattle.quote_job.specs.QuotePrintout.{quote_printout};
 

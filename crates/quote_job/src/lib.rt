@@ -1,4 +1,6 @@
 // From a job file's bytes to what its quote prints, in lent buffers. Of the file only the surface counts.
+#![tactic(auto)]
+
 mod lines;
 
 ghost use Rattle.std.specs.Prelude.{◌≡◌, ◌++◌, ◌+◌, ◌*◌, ◌≤◌, length, drop};

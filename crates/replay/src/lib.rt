@@ -1,4 +1,6 @@
 // A record of stored answers, from standard input: its kind, the count of the words that follow, and these.
+#![tactic(auto)]
+
 ghost use Rattle.std.specs.Prelude.{◌≡◌, ◌≤◌, length};
 ghost use Rattle.replay.specs.Records.{Decoded, Held};
 

@@ -1,4 +1,6 @@
 // A row of marks on one surface: an answer within the tolerance is the hint of the next mark, and one budget serves all.
+#![tactic(auto)]
+
 mod marks;
 
 ghost use Rattle.std.specs.Prelude.{◌≡◌, false, length};
@@ -13,7 +15,7 @@ use row_step::Progress;
 use scaled::{Acceptance, Accepted, accept};
 
 // Every mark was placed, with the budget left; or the number of a refusal, the index of its mark and the budget left.
-#[derive(Drop)]
+#[derive(Clone, Copy)]
 pub enum RowEnd {
     Placed(u64),
     Refusal(u64, usize, u64),

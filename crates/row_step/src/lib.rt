@@ -1,4 +1,6 @@
 // One mark of a row, and what it hands on to the next.
+#![tactic(auto)]
+
 ghost use Rattle.std.specs.Prelude.{◌≡◌};
 ghost use Rattle.surface.specs.Lent.{surface_of, at_entry};
 ghost use Rattle.scaled.specs.Accepted.{Accepts};
@@ -10,14 +12,14 @@ use scaled::Accepted;
 use vector3::Vector3;
 
 // What a row carries from mark to mark: the terms, with the next mark's hint, and the budget left.
-#[derive(Drop)]
+#[derive(Clone, Copy)]
 pub struct Progress {
     pub terms: Terms,
     pub left: u64,
 }
 
 // One mark: its answer, and what is carried on; or the number of a refusal and the budget left.
-#[derive(Drop)]
+#[derive(Clone, Copy)]
 pub enum Stepped {
     Placed(Choice, Progress),
     Refusal(u64, u64),

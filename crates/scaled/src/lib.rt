@@ -1,4 +1,6 @@
 // A surface that passed its checks, and its evaluation, with no test for an overflow where the sizes of its numbers rule one out.
+#![tactic(auto)]
+
 mod accepting;
 mod first_order;
 
@@ -15,7 +17,7 @@ use patch::Evaluated;
 use surface::surface_jet;
 
 // What the checks accepted: the surface's shape, where marks may lie, and how it is evaluated: by its largest weight, and with no test for an overflow where the sizes of its numbers rule one out.
-#[derive(Drop)]
+#[derive(Clone, Copy)]
 pub struct Accepted {
     pub shape: Shape,
     pub window: Domain,
@@ -23,7 +25,7 @@ pub struct Accepted {
     pub bounded: bool,
 }
 
-#[derive(Drop)]
+#[derive(Clone, Copy)]
 pub enum Acceptance {
     Accepted(Accepted),
     Refusal(u64),

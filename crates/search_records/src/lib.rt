@@ -1,4 +1,6 @@
 // The part of a record that holds a search's terms.
+#![tactic(auto)]
+
 ghost use Rattle.std.specs.Prelude.{◌≡◌, ◌≤◌, length};
 ghost use Rattle.search_records.specs.Search.{hint_by, period_by, terms_at};
 

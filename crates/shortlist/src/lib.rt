@@ -1,4 +1,6 @@
 // The starts as the grid is walked: six structs by value, sorted by insertion; equal distances are not taken in.
+#![tactic(auto)]
+
 ghost use Rattle.std.specs.Prelude.{◌≡◌, false, [], T, ◌≤◌, take};
 ghost use Rattle.std.specs.Float.{binary64};
 ghost use Rattle.std.specs.Float.Ieee.{fits, lt};
@@ -12,7 +14,7 @@ use float64::root;
 use vector3::{Vector3, dot, sub};
 
 // A grid point with its distance from the mark.
-#[derive(Drop)]
+#[derive(Clone, Copy)]
 pub struct Start {
     pub distance: f64,
     pub u: f64,
@@ -20,14 +22,14 @@ pub struct Start {
 }
 
 // Up to six, rising by distance.
-#[derive(Drop)]
+#[derive(Clone, Copy)]
 pub struct Starts {
     pub at: [Start; 6],
     pub count: usize,
 }
 
 // What is kept of the points seen so far. Points whose squared distance is not below the limit change nothing of it; a NaN is no limit.
-#[derive(Drop)]
+#[derive(Clone, Copy)]
 pub struct Shortlist {
     pub starts: Starts,
     pub limit: f64,

@@ -142,16 +142,16 @@ module _ (ws : List Float) (h : length ws ≡ 0 → ⊥) (above finite : Bool) (
       by true e = rw (← t.is-above, ← t.is-most e, f)
       by false e = rw (← t.is-above, e)
 
-  pub unsound-refused : not (above && finite) ≡ true → Refused ≡ weighed ws
+  pub unsound-refused : (above && finite) ≡ false → Refused ≡ weighed ws
   unfolding weighed
   unsound-refused n = simp (sound-is, n, or-true)
 
-  module _ (n : not (above && finite) ≡ false) where
+  module _ (n : (above && finite) ≡ true) where
     is-sound : sound ws ≡ true
-    is-sound = sound-is ∙ not-false _ n
+    is-sound = sound-is ∙ n
 
     all-above : above ≡ true
-    all-above = ((and-eq-true_iff above finite).0 (not-false _ n)).0
+    all-above = ((and-eq-true_iff above finite).0 n).0
 
     vanishing-is : vanishing (largest 0· ws) ws ≡ eq (least ⊘ most) 0·
     vanishing-is = vanishing-by-least ws (omega arith) is-sound ∙ rw (t.is-least all-above, t.is-most all-above)

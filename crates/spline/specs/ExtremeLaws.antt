@@ -54,8 +54,8 @@ max-finite (finite m e) (finite n d) = by (lt (fin false m e) (fin false n d))
 
 sound-from : {m : Float} → Nonneg m → (ws : List Float) → (is_finite m && sound ws) ≡ (all_above ws && is_finite (largest m ws))
 unfolding sound all_above largest
-sound-from {m} p [] = and-true (is_finite m)
-sound-from {m} p (w ∷ ws) = by (lt 0· w) refl (λ q. sound-from q ws)
+sound-from {m = m} p [] = and-true (is_finite m)
+sound-from {m = m} p (w ∷ ws) = by (lt 0· w) refl (λ q. sound-from {m = max m w} q ws)
   where
     by : (t : Bool) → lt 0· w ≡ t → (Nonneg (max m w) → (is_finite (max m w) && sound ws) ≡ (all_above ws && is_finite (largest (max m w) ws)))
         → (is_finite m && (is_finite w && lt 0· w && sound ws)) ≡ (lt 0· w && all_above ws && is_finite (largest (max m w) ws))
@@ -92,11 +92,11 @@ module _ {m : Float} (M : Positive m) where
 
   smallest-vanishes : {l : Float} → Positive l → (ws : List Float) → sound ws ≡ true → (eq (l ⊘ m) 0· || vanishing m ws) ≡ eq (smallest l ws ⊘ m) 0·
   unfolding vanishing smallest
-  smallest-vanishes {l} p [] s = or-false (eq (l ⊘ m) 0·)
-  smallest-vanishes {l} p (w ∷ ws) s =
+  smallest-vanishes {l = l} p [] s = or-false (eq (l ⊘ m) 0·)
+  smallest-vanishes {l = l} p (w ∷ ws) s =
       let h = weight-at (w ∷ ws) 0 s (omega arith) in
       let q = lesser-vanishes p (is_positive w h.0 h.1) in
-      sym (or_assoc (eq (l ⊘ m) 0·) (eq (w ⊘ m) 0·) (vanishing m ws)) ∙ ap (λ (t : Bool). t || vanishing m ws) (sym q.1) ∙ smallest-vanishes q.0 ws (first-and-rest sound-each w ws s).1
+      sym (or_assoc (eq (l ⊘ m) 0·) (eq (w ⊘ m) 0·) (vanishing m ws)) ∙ ap (λ (t : Bool). t || vanishing m ws) (sym q.1) ∙ smallest-vanishes {l = lesser l w} q.0 ws (first-and-rest sound-each w ws s).1
 
 -- the first of finite weights is held against an infinity
 first-least : (w : Float) (ws : List Float) → is_finite w ≡ true → smallest (inf false) (w ∷ ws) ≡ smallest w ws

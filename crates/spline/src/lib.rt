@@ -1,4 +1,6 @@
 // The checks of a B-spline's weights and knots, and where a parameter lies among the knots.
+#![tactic(auto)]
+
 mod knots;
 mod parameter;
 mod weights;

@@ -4,13 +4,13 @@ ghost use Rattle.spline.specs.Knots.{axis, refusal_of_knots, ascending, near, sn
 ghost use Rattle.spline.specs.ParameterLaws.{before, rank};
 
 // At a repeated knot, the limit from which side. The domain's ends are taken from inside on either.
-#[derive(Drop)]
+#[derive(Clone, Copy)]
 pub enum KnotSide {
     Left,
     Right,
 }
 
-#[derive(Drop)]
+#[derive(Clone, Copy)]
 pub enum Snapped {
     At(f64),
     Outside,

@@ -8,7 +8,7 @@ ghost use Rattle.spline.specs.ExtremeLaws.{Told};
 
 use float64::{is_finite, larger, lesser};
 
-#[derive(Drop)]
+#[derive(Clone, Copy)]
 pub enum Weighed {
     // The largest, by which the others are to be divided.
     Scale(f64),
@@ -16,7 +16,7 @@ pub enum Weighed {
 }
 
 // Whether weights are above 0, and then the smallest and the largest of them; of none, an infinity and 0.
-#[derive(Drop)]
+#[derive(Clone, Copy)]
 struct Extremes {
     above: bool,
     least: f64,

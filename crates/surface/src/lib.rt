@@ -1,5 +1,7 @@
 // A NURBS surface: its shape by value, beside the knots, controls and weights that a caller lends.
 // Control (i, j) stands at i * v.controls + j, three coordinates each.
+#![tactic(auto)]
+
 mod checks;
 mod jets;
 
@@ -8,13 +10,13 @@ pub use jets::{evaluate, surface_jet};
 use patch::Jet;
 
 // What the checks answer: the largest weight, by which all are to be divided, or the number of the refusal.
-#[derive(Drop)]
+#[derive(Clone, Copy)]
 pub enum Checked {
     Scale(f64),
     Refusal(u64),
 }
 
-#[derive(Drop)]
+#[derive(Clone, Copy)]
 pub enum Evaluation {
     Found(Jet),
     Refusal(u64),

@@ -1,4 +1,6 @@
 // The part of a record that says which surface is lent.
+#![tactic(auto)]
+
 ghost use Rattle.std.specs.Prelude.{◌≡◌, length};
 ghost use Rattle.cursor.specs.Cursors.{Within};
 ghost use Rattle.surface_records.specs.Surfaces.{Inside, window_by, surface_at};
@@ -8,7 +10,7 @@ use domain::{Shape, Window, shape_of};
 use words::float;
 
 // The shape, and where in the record the numbers stand that are lent with it, and the window's. The record goes on where the window ends.
-#[derive(Drop)]
+#[derive(Clone, Copy)]
 pub struct Lent {
     pub shape: Shape,
     pub ku: Part,

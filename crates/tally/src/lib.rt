@@ -1,4 +1,6 @@
 // How many of the stored answers the port gives, by kind.
+#![tactic(auto)]
+
 ghost use Rattle.std.specs.Prelude.{◌≡◌, ◌<◌, if◌then◌else◌};
 ghost use Rattle.tally.specs.Tallies.{empty, one_unread, tallied};
 

@@ -1,4 +1,6 @@
 // The port's kernels, for bench/ to time. A caller has made the checks already, as the source's constructors do: nothing here makes them again.
+#![tactic(auto)]
+
 ghost use Rattle.std.specs.Prelude.{◌≡◌};
 ghost use Rattle.float64.specs.Functions.{root, rem_euclid};
 ghost use Rattle.spline.specs.Knots.{axis, refusal_of_knots};

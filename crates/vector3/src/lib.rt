@@ -1,10 +1,12 @@
 // Vectors of space. Sums go from the left: the order decides how they round.
+#![tactic(auto)]
+
 ghost use Rattle.std.specs.Prelude.{◌≡◌};
 ghost use Rattle.vector3.specs.Vector3 as Vectors;
 
 use float64::{is_finite, root};
 
-#[derive(Drop)]
+#[derive(Clone, Copy)]
 pub struct Vector3 {
     pub x: f64,
     pub y: f64,

@@ -1,4 +1,6 @@
 // Replays stored answers of the Rust, from standard input, and prints for each call how many of them the port gives.
+#![tactic(auto)]
+
 mod floats;
 mod inversions;
 mod jobs;

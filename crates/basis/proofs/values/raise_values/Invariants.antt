@@ -1,0 +1,20 @@
+-- Each turn writes a value of the next degree, and carries the terms of the column after it.
+use Prim.Native.Nat.{◌+◌, ◌-◌, ◌^◌, ◌≤◌}
+use native.Mathlib.Numerals.{add-one}
+use native.Mathlib.Omega.{arith}
+use lib.Dec.{le→leb}
+use lib.Ieee.{in_float, of_int}
+use Rattle.float64.specs.Operators.{of_nat}
+use Rattle.basis.specs.Parts.{Row}
+use Rattle.basis.proofs.Rows.{till}
+use Rattle.basis.proofs.Zeros.{Stands, itself}
+use Rattle.basis.proofs.Parts.{value, term, begin, skip_first, go, carried, last}
+use borrow.Author.Rules.{rules}
+use Rattle.basis.proofs.values.raise_values.Given as goal
+
+abbrev pub invariant-loop-j : goal.invariant-loop-j
+invariant-loop-j l =
+    (l.p - (l.d + 1) ≤ l.j) × (l.j ≤ l.p) × Row l.values (till (value l.knots l.start l.p l.u (l.d + 1)) (value l.knots l.start l.p l.u l.d) l.j) × Stands (term l.knots l.start l.p l.u (l.d + 1) l.j l.values) l.a
+
+abbrev pub decreases-loop-j : goal.decreases-loop-j
+decreases-loop-j l = l.p - l.j

@@ -1,0 +1,37 @@
+-- The values of the snapped parameter, or nothing.
+use mathlib.Core.Path.{refl, sym, ap}
+use native.Mathlib.Omega.{arith}
+use Rattle.spline.specs.KnotLaws.{accepted}
+use Rattle.basis.specs.Parts.{value_of, value_in, part_of, shown_part}
+use Rattle.basis.proofs.Gathered.{nowhere}
+use Rattle.basis.proofs.Parts.{spanned, shows}
+use borrow.Author.Rules.{rules}
+use Rattle.basis.proofs.values.tabulate_values.Goals as goal
+
+pub snap_on-requires : goal.snap_on-requires
+snap_on-requires c = c.requires.0
+
+pub returns-in_default : goal.returns-in_default
+unfolding shown_part part_of
+returns-in_default c = sym (ap (part_of value_of) (nowhere _ _ _ _ c.snap_on.ensures c.in_default.is))
+
+pub first_at-start-requires : goal.first_at-start-requires
+first_at-start-requires c = c.requires.0
+
+pub triangle_of_values-requires : goal.triangle_of_values-requires
+triangle_of_values-requires c =
+    let spans = c in
+    let at = spans in
+    let start = at in
+    let p = accepted _ start.requires.0 in
+    let b = spans.first_at-start.ensures in
+    (omega arith, omega arith, omega arith, spanned _ start.requires.0 start.requires.1 _ _ _ at.snap_on.ensures _ at.in-At.is _ b.0, start.requires.2)
+
+pub returns : goal.returns
+returns c =
+    let spans = c in
+    let at = spans in
+    let start = at in
+    let row = c.triangle_of_values.ensures in
+    let p = accepted _ start.requires.0 in
+    shows _ start.requires.0 start.requires.1 _ _ _ at.snap_on.ensures _ at.in-At.is _ spans.first_at-start.ensures.0 value_of value_in (λ x y z. refl) _ row.wide (λ k l. row.same k (omega arith))

@@ -1,0 +1,24 @@
+-- Each return is a law of `wrapped`.
+use mathlib.Core.Path.{◌≡◌, sym, ap, ◌∙◌}
+use mathlib.Core.Bool.{false, not, ◌&&◌}
+use mathlib.Core.Logic.{⊎_elim}
+use lib.Ieee.{le}
+use borrow.Author.Rules.{rules}
+use borrow.Author.Tests.{not-true, not-false}
+use Rattle.domain.specs.WrapLaws.{wrap-flagless, wrap-not-finite, wrap-inside, wrap-outside}
+use Rattle.domain.proofs.intervals.wrap.Goals as goal
+
+pub returns-then-not-i : goal.returns-then-not-i
+returns-then-not-i c = sym (wrap-flagless _ _ _ _ (not-true _ c.if-not-i.true))
+
+pub returns-then-not-is_finite : goal.returns-then-not-is_finite
+returns-then-not-is_finite c = sym (wrap-not-finite _ _ _ _ (sym c.is_finite.ensures ∙ c.if-not-is_finite.true))
+
+pub returns-then-t-high : goal.returns-then-t-high
+returns-then-t-high c = sym (wrap-inside _ _ _ _ c.if-low-t.true c.if-t-high.true)
+
+pub returns : goal.returns
+returns c =
+    let outside : (let a = c.args in (le a.i.low a.t && le a.t a.i.high) ≡ false) = (let b = c.else-low-t.branch in ?) in
+    rw c.rem_euclid.ensures at c.clamp.ensures
+    ∙ sym (wrap-outside _ _ _ _ (not-false _ c.if-not-i.false) (sym c.is_finite.ensures ∙ c.if-not-is_finite.false) outside)

@@ -1,0 +1,14 @@
+-- The whole domain, or an axis after the other.
+use mathlib.Core.Path.{◌∙◌}
+use denote.Floats.{passes}
+use borrow.Author.Rules.{rules}
+use Rattle.domain.specs.Windows.{window_in}
+use Rattle.domain.proofs.windows.window_of.Goals as goal
+
+pub returns-in-Whole : goal.returns-in-Whole
+unfolding window_in
+returns-in-Whole c = record { value = c.domain_of-domain.ensures ∙ rw c.in-Whole.is; double_window = rw c.in-Whole.is tt }
+
+pub returns-in-Within : goal.returns-in-Within
+unfolding window_in
+returns-in-Within c = ?

@@ -1,0 +1,15 @@
+-- The definition's own tests, in its order.
+use Rattle.float64.specs.Functions.{clamp}
+use Rattle.float64.proofs.clamp.Goals as goal
+
+pub returns-then-x-lo : goal.returns-then-x-lo
+unfolding clamp
+returns-then-x-lo c = simp c.if-x-lo.true
+
+pub returns-then-hi-x : goal.returns-then-hi-x
+unfolding clamp
+returns-then-hi-x c = simp (c.if-x-lo.false, c.if-hi-x.true)
+
+pub returns : goal.returns
+unfolding clamp
+returns c = simp (c.if-x-lo.false, c.if-hi-x.false)
