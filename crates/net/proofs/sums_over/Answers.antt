@@ -1,0 +1,57 @@
+-- A turn of the loop adds the controls of one row.
+use mathlib.Core.Path.{◌≡◌}
+use Prim.Native.Nat.{◌+◌, ◌*◌, ◌-◌, ◌≤◌}
+use native.Mathlib.Omega.{arith}
+use lib.ListN.{get_or}
+use lib.Ieee.{nan}
+use Rattle.patch.specs.Patch.{add_control, empty_sums}
+use Rattle.net.specs.Sums.{turns, control_at}
+use Rattle.net.specs.Net.{three_at, sums_by}
+use Rattle.net.specs.NetLaws.{row_inside}
+use Rattle.net.proofs.SumSteps.{no-turn, one-turn, row_room}
+use borrow.Author.Rules.{rules}
+use Rattle.net.proofs.sums_over.Goals as goal
+
+pub loop-i-init : goal.loop-i-init
+loop-i-init c = (omega arith, rw c.empty_sums-sums.ensures (no-turn _ _))
+
+pub overflow_mul-at : goal.overflow_mul-at
+overflow_mul-at c =
+    let turn = c in
+    omega (arith, row_inside c.requires.1 turn.loop-i.i turn.loop-i-test.true)
+
+pub overflow_add-at-in-loop-i : goal.overflow_add-at-in-loop-i
+overflow_add-at-in-loop-i c =
+    let turn = c in
+    omega (arith, row_inside c.requires.1 turn.loop-i.i turn.loop-i-test.true)
+
+pub overflow_mul-i : goal.overflow_mul-i
+overflow_mul-i c =
+    let turn = c in
+    omega (arith, row_room c.requires.1 turn.loop-i.i turn.loop-i-test.true)
+
+pub sums_along-sums-requires : goal.sums_along-sums-requires
+sums_along-sums-requires c =
+    let turn = c in
+    let i = turn.loop-i.i in
+    let pre = c.requires in
+    let p = pre.1 in
+    (omega (arith, p.columns-most), row_room p i turn.loop-i-test.true, omega (arith, pre.0, row_inside p i turn.loop-i-test.true))
+
+pub overflow_step-i : goal.overflow_step-i
+overflow_step-i c =
+    let turn = c in
+    omega (arith, turn.loop-i-test.true, c.requires.1.rows-most)
+
+pub loop-i-preserved : goal.loop-i-preserved
+loop-i-preserved c =
+    let turn = c in
+    let l = turn.loop-i in
+    (omega (arith, turn.loop-i-test.true), one-turn _ l.i _ l.invariant.1 c.sums_along-sums.ensures)
+
+pub returns : goal.returns
+unfolding sums_by
+returns c =
+    let l = c.loop-i in
+    let e : l.i ≡ c.args.shape.u.degree + 1 = omega arith in
+    rw e at l.invariant.1

@@ -1,0 +1,21 @@
+-- A turn of the loop adds the controls of one row.
+use mathlib.Core.Path.{◌≡◌}
+use Prim.Native.Nat.{◌+◌, ◌*◌, ◌-◌, ◌≤◌}
+use native.Mathlib.Omega.{arith}
+use lib.ListN.{get_or}
+use lib.Ieee.{nan}
+use Rattle.patch.specs.Patch.{add_control, empty_sums}
+use Rattle.net.specs.Sums.{turns, control_at}
+use Rattle.net.specs.Net.{three_at, sums_by}
+use Rattle.net.specs.NetLaws.{row_inside}
+use Rattle.net.proofs.SumSteps.{no-turn, one-turn, row_room}
+use borrow.Author.Rules.{rules}
+use Rattle.net.proofs.sums_over.Given as goal
+
+abbrev pub invariant-loop-i : goal.invariant-loop-i
+invariant-loop-i l =
+    (l.i ≤ l.i-end)
+    × (l.sums ≡ turns (λ i. turns (λ j t. add_control (three_at l.u i) (three_at l.v j) (get_or l.net (i * l.columns + j) nan) (control_at l.controls ((l.row + i) * l.stride + l.column + j)) t) l.columns) l.i empty_sums)
+
+abbrev pub decreases-loop-i : goal.decreases-loop-i
+decreases-loop-i l = l.i-end - l.i
