@@ -26,7 +26,7 @@ use Rattle.domain.specs.declared.Interval.{Interval}
 use Rattle.domain.specs.declared.Domain.{Domain}
 use Rattle.domain.specs.Windows.{misfits_on, misfits}
 use Rattle.surface.specs.Surface.{Surface, axis_u, axis_v, domain_of, or_else, when, too_large, miscounted, refusal_of_surface, scale_of, judged, checked, evaluate_by, or_nine, evaluated_by, evaluated, number_of_checked, number_of}
-use Rattle.surface.specs.Refusals.{Line, this, next, None, TooLarge, Miscounted, Some, Unweighed, KnotLines, Misfit, Unwindowed, SurfaceLines}
+use Rattle.surface.specs.Refusals.{Line, this, next, None, TooLarge, Miscounted, Some, Unweighed, KnotLines, Misfit, Unwindowed, AxisLines, SurfaceLines}
 use Rattle.surface.specs.SurfaceLaws.{finite-each, some-fails}
 use Rattle.surface.specs.EvaluateLaws.{evaluate-finite}
 
@@ -70,7 +70,7 @@ not-both : (b c : Bool) → not (b && c) ≡ (not b || not c)
 not-both true c = refl
 not-both false c = refl
 
-large : (s : Surface) → Decides (too_large s) (TooLarge s)
+pub large : (s : Surface) → Decides (too_large s) (TooLarge s)
 unfolding too_large
 large s = either _ _ (above _ _) (above _ _)
 
@@ -152,13 +152,16 @@ module _ (later : ℕ → Type 0) (n : ℕ) (l : later n) where
       by false false e d = next (d.1 refl) (this e)
 
 module _ (s : Surface) (later : ℕ → Type 0) where
+  pub axes-tested : (n : ℕ) → later n → AxisLines s later (or_else (refusal_of_knots (axis_u s)) (or_else (refusal_of_knots (axis_v s)) (or_else (when (misfits s.shape.window (domain_of s)) 24) n)))
+  axes-tested n l =
+      let window = tested later n l 23 _ (unwindowed s.shape.window (domain_of s)) in
+      let v = knots-tested _ _ window (axis_v s) in
+      knots-tested _ _ v (axis_u s)
+
   surface-tested : (n : ℕ) → later n → SurfaceLines s later (or_else (refusal_of_surface s) n)
   unfolding refusal_of_surface
   surface-tested n l =
-      let window = tested later n l 23 _ (unwindowed s.shape.window (domain_of s)) in
-      let v = knots-tested _ _ window (axis_v s) in
-      let u = knots-tested _ _ v (axis_u s) in
-      let four = weights-tested _ _ u s.weights in
+      let four = weights-tested _ _ (axes-tested n l) s.weights in
       let three = tested _ _ four 2 _ (some-failing finite-each s.controls) in
       let two = tested _ _ three 1 _ (wrong-counts s) in
       simp or-else-assoc (tested _ _ two 0 _ (large s))
@@ -170,7 +173,7 @@ module _ (s : Surface) (later : ℕ → Type 0) where
     λ e. subst (SurfaceLines s later) e (surface-tested m l),
   )
 
-or_else_none : (n : ℕ) → or_else n 0 ≡ n
+pub or_else_none : (n : ℕ) → or_else n 0 ≡ n
 unfolding or_else
 or_else_none zero = refl
 or_else_none (suc n) = refl

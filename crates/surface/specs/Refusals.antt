@@ -49,6 +49,10 @@ abbrev pub Unwindowed : Window → Domain → Type 0
 Unwindowed Whole d = ⊥
 Unwindowed (Within a b c e) d = Misfit d.u a b ⊎ Misfit d.v c e
 
+-- of the knots and the window
+abbrev pub AxisLines : Surface → (ℕ → Type 0) → ℕ → Type 0
+AxisLines s later = KnotLines (axis_u s) (KnotLines (axis_v s) (Line (Unwindowed s.shape.window (domain_of s)) 24 later))
+
 -- "1, 2, 3, 4, then 5 and 6 for u, 5 and 6 for v", and 24 "after the surface checks and before the curve's and 7"
 abbrev pub SurfaceLines : Surface → (ℕ → Type 0) → ℕ → Type 0
 SurfaceLines s later =

@@ -1,5 +1,5 @@
 -- A NURBS surface: when it is accepted, and its evaluation. Definitions only.
-use Rattle.std.specs.Prelude.{Bool, not, cond, ◌&&◌, ◌||◌, List, ℕ, zero, suc, ◌+◌, ◌*◌, ltb, eqb, length, get_or, Float}
+use Rattle.std.specs.Prelude.{Bool, not, cond, ◌&&◌, ◌||◌, List, ℕ, zero, suc, ◌+◌, ◌*◌, ltb, eqb, length, get_or, Float, []}
 use Rattle.std.specs.Float.{nan}
 use Rattle.float64.specs.Operators.{0·}
 use Rattle.spline.specs.declared.parameter.KnotSide.TheVariants.{Right}
@@ -13,7 +13,7 @@ use Rattle.patch.specs.declared.Evaluated.TheVariants as Evaluated
 use Rattle.patch.specs.Patch.{add_control, empty_sums, rational}
 use Rattle.domain.specs.declared.Shape.{Shape}
 use Rattle.domain.specs.declared.Domain.{Domain}
-use Rattle.domain.specs.Intervals.{domain_on, wrapped}
+use Rattle.domain.specs.Intervals.{axis_of, domain_on, wrapped}
 use Rattle.domain.specs.Windows.{misfits, window_in}
 use Rattle.surface.specs.declared.Checked.{Checked}
 use Rattle.surface.specs.declared.Checked.TheVariants as Check
@@ -30,6 +30,10 @@ pub record Surface : Type 0 where
 
 abbrev pub surface : Shape → List Float → List Float → List Float → List Float → Surface
 surface shape ku kv cs ws = record { shape = shape; knots_u = ku; knots_v = kv; controls = cs; weights = ws }
+
+-- without its controls
+abbrev pub bare : Shape → List Float → List Float → Surface
+bare shape ku kv = surface shape ku kv [] []
 
 abbrev pub axis_u : Surface → Axis
 axis_u s = axis s.shape.u.degree s.shape.u.controls s.knots_u
@@ -75,6 +79,11 @@ refusal_of_surface s =
     (or_else (Weights.refusal_of (weighed s.weights))
     (or_else (refusal_of_knots (axis_u s))
     (or_else (refusal_of_knots (axis_v s)) (when (misfits s.shape.window (domain_of s)) 24))))))
+
+-- the last of them, of the axes and the window alone: 5 and 6 for u, 5 and 6 for v, 24
+abbrev pub refusal_of_axes : Shape → List Float → List Float → ℕ
+refusal_of_axes shape ku kv =
+    or_else (refusal_of_knots (axis_of shape.u ku)) (or_else (refusal_of_knots (axis_of shape.v kv)) (when (misfits shape.window (domain_on shape ku kv)) 24))
 
 -- the largest weight
 abbrev pub scale_of : Surface → Float

@@ -13,8 +13,10 @@ use Rattle.spline.specs.WeightLaws.{scale-of}
 use Rattle.spline.specs.Knots.{all_finite, refusal_of_knots}
 use Rattle.spline.specs.Each.{Each, each_at, all_of_each}
 use Rattle.surface.specs.declared.Checked.TheVariants as Check
+use Rattle.domain.specs.declared.Shape.{Shape}
+use Rattle.domain.specs.Intervals.{axis_of, domain_on}
 use Rattle.domain.specs.Windows.{misfits}
-use Rattle.surface.specs.Surface.{Surface, axis_u, axis_v, domain_of, total, or_else, when, too_large, miscounted, refusal_of_surface, scale_of, judged, checked}
+use Rattle.surface.specs.Surface.{Surface, axis_u, axis_v, domain_of, total, or_else, when, too_large, miscounted, refusal_of_surface, refusal_of_axes, scale_of, judged, checked}
 
 -- ---- the checks
 
@@ -42,7 +44,7 @@ not-when : (t : Bool) (n : ℕ) → when t (suc n) ≡ 0 → t ≡ false
 not-when true n h = absurd (omega arith)
 not-when false n h = refl
 
-small : (s : Surface) → too_large s ≡ false → (total s ≤ 100000) × (length s.knots_u + length s.knots_v ≤ 100034)
+pub small : (s : Surface) → too_large s ≡ false → (total s ≤ 100000) × (length s.knots_u + length s.knots_v ≤ 100034)
 unfolding too_large
 small s h = let t = neither _ _ h in (ltb-false _ _ t.0, ltb-false _ _ t.1)
 
@@ -65,6 +67,13 @@ scale-known s h = by (weighed s.weights) refl h
     by : (w : Weighed) → weighed s.weights ≡ w → refusal_of w ≡ 0 → weighed s.weights ≡ Weighed.Scale (scale_of s)
     by (Weighed.Scale m) e h = e ∙ ap Weighed.Scale (scale-is s m e)
     by Weighed.Refused e h = absurd (omega arith)
+
+-- of its knots and its window
+pub accepted-axes : (shape : Shape) (ku kv : List Float) → refusal_of_axes shape ku kv ≡ 0 → (refusal_of_knots (axis_of shape.u ku) ≡ 0) × (refusal_of_knots (axis_of shape.v kv) ≡ 0) × (misfits shape.window (domain_on shape ku kv) ≡ false)
+accepted-axes shape ku kv h =
+    let u = none_of _ _ h in
+    let v = none_of _ _ u.1 in
+    (u.0, v.0, not-when _ _ v.1)
 
 -- a surface that is accepted
 pub record AcceptedSurface (s : Surface) : Type 0 where

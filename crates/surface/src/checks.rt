@@ -10,12 +10,12 @@ use float64::is_finite;
 use spline::{Weighed, check_knots, validate_weights};
 
 // The source's default limits.
-const MAX_CONTROLS: usize = 100_000;
+pub const MAX_CONTROLS: usize = 100_000;
 
-const MAX_KNOTS: usize = 100_034;
+pub const MAX_KNOTS: usize = 100_034;
 
 // How many controls two counts make, or one over the limit where they are more. Nothing wraps.
-fn product(a: usize, b: usize) -> usize
+pub fn product(a: usize, b: usize) -> usize
     ensures { result ≡ min (a * b) 100001 }
 {
     if a == 0 {

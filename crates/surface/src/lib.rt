@@ -2,9 +2,11 @@
 // Control (i, j) stands at i * v.controls + j, three coordinates each.
 #![tactic(auto)]
 
+mod axes;
 mod checks;
 mod jets;
 
+pub use axes::{check_axes, too_large};
 pub use checks::check;
 pub use jets::{evaluate, surface_jet};
 use patch::Jet;
