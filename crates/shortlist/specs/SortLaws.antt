@@ -29,6 +29,7 @@ at_distance d (p ∷ ps) = cond (eq p.distance d) (p ∷ at_distance d ps) (at_d
 number_at : {p : Start} {ps : List Start} → Numbers ps → Memᴰ p ps → is_nan p.distance ≡ false
 number_at (more n ns) (Memᴰ.head e) = rw e n
 number_at (more n ns) (Memᴰ.tail m) = number_at ns m
+number_at {p = p} none x3 = elim x3 [ ]
 
 pub numbers_of : (ps : List Start) → ((p : Start) → Memᴰ p ps → is_nan p.distance ≡ false) → Numbers ps
 numbers_of [] h = none
@@ -238,6 +239,7 @@ take-ordered (suc n) (s ∷ ss) o = (λ t m. o.0 t (take-member n ss m), take-or
 -- a point of a rising list is among the first n, or further than all of them
 taken : (n : ℕ) (ss : List Start) → Ordered nearer ss → (s : Start) → Memᴰ s ss → Memᴰ s (take n ss) ⊎ Beyond n (take n ss) s
 taken zero ss o s m = inr (refl, λ t l. absurd (Memᴰ.not-nil l))
+taken (suc n) [] o s m = elim m [ ]
 taken (suc n) (r ∷ ss) o s (Memᴰ.head e) = inl (Memᴰ.head e)
 taken (suc n) (r ∷ ss) o s (Memᴰ.tail m) = by (taken n ss o.1 s m)
   where
