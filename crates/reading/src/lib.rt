@@ -5,7 +5,6 @@ ghost use Rattle.std.specs.Prelude.{◌≡◌, ◌⊎◌, ◌+◌, ◌^◌, ◌�
 ghost use Rattle.reading.specs.Reads.{IsPrefixLen, Onward, after_read};
 
 use failure::fail;
-use std::io;
 use std::io::{ErrorKind, Read};
 
 // What a read's answer makes of the bytes that are there.
@@ -18,16 +17,15 @@ enum Input {
 }
 
 // How many bytes are there at the input's end, or when there is no more room; those that were there before stay. A read that fails leaves none: what came before it is cut off.
-pub fn read_rest<R: io::Input + Eprint>(rt: &R, bytes: &mut [u8], from: usize) -> usize
+pub fn read_rest<R: Eprint, S: Read>(rt: &R, reader: &mut S, bytes: &mut [u8], from: usize) -> usize
     requires { from ≤ length bytes.old }
     ensures bytes_unchanged { take from bytes.new ≡ take from bytes.old }
     ensures prefix_len { IsPrefixLen result bytes.new }
     ensures fact { (result ≡ 0) ⊎ (from ≤ result) }
 {
-    let mut reader = rt.reader();
     let mut have = from;
     for _ in 0..0xffff_ffff_ffff_ffffu64 {
-        match read_on(rt, &mut reader, bytes, have) {
+        match read_on(rt, reader, bytes, have) {
             Input::There(n) => have = n,
             Input::End => return have,
             Input::Failed => return 0,
