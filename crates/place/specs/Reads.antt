@@ -1,7 +1,11 @@
 -- What a read may answer. Definitions only.
-use Rattle.std.specs.Prelude.{ℕ, zero, suc, ◌+◌, ◌≤◌, Bool, true, false}
+use Rattle.std.specs.Prelude.{◌≡◌, ℕ, zero, suc, ◌+◌, ◌≤◌, Bool, true, false, List, length, take}
 use Rattle.place.specs.declared.Input.{Input}
 use Rattle.place.specs.declared.Input.TheVariants.{There, End, Failed}
+
+-- `xs[..n]` is in bounds and has n bytes. The second part follows from the first, and spares a caller's `&xs[..n]` a proof file.
+abbrev pub IsPrefixLen : ℕ → List ℕ → Type 0
+IsPrefixLen n xs = (n ≤ length xs) × (n ≡ length (take n xs))
 
 -- the bytes that were there are, and no more than there is room for
 abbrev pub Onward : ℕ → ℕ → Input → Type 0

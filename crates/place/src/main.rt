@@ -2,18 +2,19 @@
 #![tactic(auto)]
 
 ghost use Rattle.std.specs.Prelude.{◌≡◌, ◌⊎◌, ◌+◌, ◌^◌, ◌≤◌, ◌<◌, length, take};
-ghost use Rattle.io.specs.Counts.{IsPrefixLen};
 ghost use Rattle.job.specs.Printout.{printout};
-ghost use Rattle.place.specs.Reads.{Onward, after_read};
+ghost use Rattle.place.specs.Reads.{IsPrefixLen, Onward, after_read};
 
+use failure::fail;
 use job_format::MOST_BYTES;
-use libc::{EINTR, STDERR_FILENO, STDIN_FILENO, STDOUT_FILENO};
+use std::env::{Env, FillError};
+use std::io::{ErrorKind, Read};
 
 // One byte more than a job file may have.
 const ROOM: usize = MOST_BYTES + 1;
 
 // What a read's answer makes of the bytes that are there.
-#[derive(Drop)]
+#[derive(Clone, Copy)]
 enum Input {
     // So many are there now: as many as before where the read was interrupted.
     There(usize),
@@ -21,26 +22,33 @@ enum Input {
     Failed,
 }
 
-fn main() {
-    if 1 < os::arg_count() {
-        about();
+fn main(rt: HostRuntime) {
+    if has_argument(&rt) {
+        about(&rt);
         return;
     }
     let mut bytes = [0u8; ROOM];
-    let got = read_rest(&mut bytes, 0);
-    print(&bytes[..got]);
+    let mut reader = rt.stdin();
+    let got = read_rest(&rt, &mut reader, &mut bytes, 0);
+    print(&rt, &bytes[..got]);
+}
+
+fn has_argument<R: Env>(rt: &R) -> bool {
+    let mut start = [0u8; 1];
+    match rt.arg(1, &mut start) {
+        Ok(_) => true,
+        Err(FillError::TooLong) => true,
+        Err(FillError::NotPresent) => false,
+    }
 }
 
 // With any argument the program reads nothing and tells its version.
-fn about() {
-    io::write_all(
-        STDERR_FILENO,
-        b"place 0.5.0\nusage: place < JOB > PRINTOUT\n",
-    );
+fn about<R: Eprint>(rt: &R) {
+    let _ = rt.eprintln("place 0.5.0\nusage: place < JOB > PRINTOUT");
 }
 
 // How many bytes are there at the input's end, or when there is no more room; those that were there before stay. A read that fails leaves none: what came before it is cut off.
-fn read_rest(bytes: &mut [u8], from: usize) -> usize
+fn read_rest<R: Eprint, S: Read>(rt: &R, reader: &mut S, bytes: &mut [u8], from: usize) -> usize
     requires { from ≤ length bytes.old }
     ensures bytes_unchanged { take from bytes.new ≡ take from bytes.old }
     ensures prefix_len { IsPrefixLen result bytes.new }
@@ -48,20 +56,17 @@ fn read_rest(bytes: &mut [u8], from: usize) -> usize
 {
     let mut have = from;
     for _ in 0..0xffff_ffff_ffff_ffffu64 {
-        match read_on(bytes, have) {
+        match read_on(rt, reader, bytes, have) {
             Input::There(n) => have = n,
             Input::End => return have,
-            Input::Failed => {
-                os::fail(b"the job could not be read");
-                return 0;
-            }
+            Input::Failed => return 0,
         }
     }
     0
 }
 
-// One read, past the bytes that are there, which stay.
-fn read_on(bytes: &mut [u8], have: usize) -> Input
+// One read, past the bytes that are there, which stay. Where it fails, standard error has the cause.
+fn read_on<R: Eprint, S: Read>(rt: &R, reader: &mut S, bytes: &mut [u8], have: usize) -> Input
     requires { have ≤ length bytes.old }
     ensures bytes_unchanged { take have bytes.new ≡ take have bytes.old }
     ensures onward { Onward have (length bytes.old) result }
@@ -69,11 +74,19 @@ fn read_on(bytes: &mut [u8], have: usize) -> Input
     if have == bytes.len() {
         return Input::End;
     }
-    let got = libc::read(STDIN_FILENO, &mut bytes[have..]);
-    let interrupted = os::errno() == EINTR;
-    after(have, io::count(got, &bytes[have..]), got < 0, interrupted)
+    match reader.read(&mut bytes[have..]) {
+        Ok(more) => after(have, more, false, false),
+        Err(error) => {
+            let interrupted = error.kind() == ErrorKind::Interrupted;
+            if !interrupted {
+                fail(rt, "the job could not be read", error);
+            }
+            after(have, 0, true, interrupted)
+        }
+    }
 }
 
+#[tactic(auto, unfolding(crate::specs::Reads::after_read))]
 fn after(have: usize, more: usize, failed: bool, interrupted: bool) -> Input
     requires { have + more < 2 ^ 64 }
     ensures { result ≡ after_read have more failed interrupted }
@@ -90,17 +103,17 @@ fn after(have: usize, more: usize, failed: bool, interrupted: bool) -> Input
     Input::There(have + more)
 }
 
-fn print(file: &[u8]) {
+fn print<R: Print + Eprint>(rt: &R, file: &[u8]) {
     let mut out = [0u8; job::MOST_PRINTED];
     let n = job::job(file, &mut out);
-    write(file, &out[..n]);
+    write(rt, file, &out[..n]);
 }
 
-// A program has no exit status of its own to give: that a printout is not whole is told on standard error.
-fn write(file: &[u8], printed: &[u8])
+// The program's exit status doesn't tell it: that a printout is not whole is told on standard error.
+fn write<R: Print + Eprint>(rt: &R, file: &[u8], printed: &[u8])
     requires { printed.now ≡ printout file.now }
 {
-    if !io::write_all(STDOUT_FILENO, printed) {
-        os::fail(b"the printout is not whole");
+    if let Err(error) = rt.write_all(printed) {
+        fail(rt, "the printout is not whole", error);
     }
 }

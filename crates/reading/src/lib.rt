@@ -2,13 +2,13 @@
 #![tactic(auto)]
 
 ghost use Rattle.std.specs.Prelude.{◌≡◌, ◌⊎◌, ◌+◌, ◌^◌, ◌≤◌, ◌<◌, length, take};
-ghost use Rattle.io.specs.Counts.{IsPrefixLen};
-ghost use Rattle.reading.specs.Reads.{Onward, after_read};
+ghost use Rattle.reading.specs.Reads.{IsPrefixLen, Onward, after_read};
 
-use libc::{EINTR, STDIN_FILENO};
+use failure::fail;
+use std::io::{ErrorKind, Read};
 
 // What a read's answer makes of the bytes that are there.
-#[derive(Drop)]
+#[derive(Clone, Copy)]
 enum Input {
     // So many are there now: as many as before where the read was interrupted.
     There(usize),
@@ -17,7 +17,7 @@ enum Input {
 }
 
 // How many bytes are there at the input's end, or when there is no more room; those that were there before stay. A read that fails leaves none: what came before it is cut off.
-pub fn read_rest(bytes: &mut [u8], from: usize) -> usize
+pub fn read_rest<R: Eprint, S: Read>(rt: &R, reader: &mut S, bytes: &mut [u8], from: usize) -> usize
     requires { from ≤ length bytes.old }
     ensures bytes_unchanged { take from bytes.new ≡ take from bytes.old }
     ensures prefix_len { IsPrefixLen result bytes.new }
@@ -25,20 +25,17 @@ pub fn read_rest(bytes: &mut [u8], from: usize) -> usize
 {
     let mut have = from;
     for _ in 0..0xffff_ffff_ffff_ffffu64 {
-        match read_on(bytes, have) {
+        match read_on(rt, reader, bytes, have) {
             Input::There(n) => have = n,
             Input::End => return have,
-            Input::Failed => {
-                os::fail(b"the job could not be read");
-                return 0;
-            }
+            Input::Failed => return 0,
         }
     }
     0
 }
 
-// One read, past the bytes that are there, which stay.
-fn read_on(bytes: &mut [u8], have: usize) -> Input
+// One read, past the bytes that are there, which stay. Where it fails, standard error has the cause.
+fn read_on<R: Eprint, S: Read>(rt: &R, reader: &mut S, bytes: &mut [u8], have: usize) -> Input
     requires { have ≤ length bytes.old }
     ensures bytes_unchanged { take have bytes.new ≡ take have bytes.old }
     ensures onward { Onward have (length bytes.old) result }
@@ -46,11 +43,19 @@ fn read_on(bytes: &mut [u8], have: usize) -> Input
     if have == bytes.len() {
         return Input::End;
     }
-    let got = libc::read(STDIN_FILENO, &mut bytes[have..]);
-    let interrupted = os::errno() == EINTR;
-    after(have, io::count(got, &bytes[have..]), got < 0, interrupted)
+    match reader.read(&mut bytes[have..]) {
+        Ok(more) => after(have, more, false, false),
+        Err(error) => {
+            let interrupted = error.kind() == ErrorKind::Interrupted;
+            if !interrupted {
+                fail(rt, "the job could not be read", error);
+            }
+            after(have, 0, true, interrupted)
+        }
+    }
 }
 
+#[tactic(auto, unfolding(crate::specs::Reads::after_read))]
 fn after(have: usize, more: usize, failed: bool, interrupted: bool) -> Input
     requires { have + more < 2 ^ 64 }
     ensures { result ≡ after_read have more failed interrupted }

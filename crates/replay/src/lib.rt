@@ -4,7 +4,7 @@
 ghost use Rattle.std.specs.Prelude.{◌≡◌, ◌≤◌, length};
 ghost use Rattle.replay.specs.Records.{Decoded, Held};
 
-use libc::STDIN_FILENO;
+use std::io::Read;
 
 // A record has at most 4,096 words, its kind and its count among them.
 pub const MOST_WORDS: usize = 4094;
@@ -13,7 +13,7 @@ pub const MOST_WORDS: usize = 4094;
 pub const MOST_RECORDS: u64 = 65536;
 
 // What stands next in the input.
-#[derive(Drop)]
+#[derive(Clone, Copy)]
 pub enum Input {
     Record,
     // A record that is cut off.
@@ -24,7 +24,7 @@ pub enum Input {
 }
 
 // Without a record the kind and the count of words are 0.
-#[derive(Drop)]
+#[derive(Clone, Copy)]
 pub struct Next {
     pub input: Input,
     pub kind: u64,
@@ -42,12 +42,17 @@ fn no_record(input: Input) -> Next
 }
 
 // Reads the next record. Its words come to stand from index 0 on, as bytes, as they are and as floats.
-pub fn next_record(bytes: &mut [u8], words: &mut [u64], numbers: &mut [f64]) -> Next
+pub fn next_record<S: Read>(
+    reader: &mut S,
+    bytes: &mut [u8],
+    words: &mut [u64],
+    numbers: &mut [f64],
+) -> Next
     requires { (length bytes.old ≡ 65536) × (length words.old ≡ 4094) × (length numbers.old ≡ 4094) }
     ensures { Held bytes.new result.count words.new numbers.new }
 {
     let mut head = [0u8; 16];
-    let got = io::read_full(STDIN_FILENO, &mut head);
+    let got = read_full(reader, &mut head);
     if got == 0 {
         return no_record(Input::End);
     }
@@ -60,7 +65,7 @@ pub fn next_record(bytes: &mut [u8], words: &mut [u64], numbers: &mut [f64]) -> 
         return no_record(Input::Long);
     }
     let count = count as usize;
-    let got = io::read_full(STDIN_FILENO, &mut bytes[..8 * count]);
+    let got = read_full(reader, &mut bytes[..8 * count]);
     if got < 8 * count {
         return no_record(Input::Short);
     }
@@ -70,6 +75,21 @@ pub fn next_record(bytes: &mut [u8], words: &mut [u64], numbers: &mut [f64]) -> 
         kind,
         count,
     }
+}
+
+// Reads until the buffer is full, the input ends or a read fails, and returns how many bytes came to stand at the start of the buffer.
+fn read_full<S: Read>(reader: &mut S, buf: &mut [u8]) -> usize
+    ensures { result ≤ length buf.new }
+{
+    let mut done = 0;
+    while done < buf.len() {
+        match reader.read(&mut buf[done..]) {
+            Ok(0) => return done,
+            Ok(n) => done += n,
+            Err(_) => return done,
+        }
+    }
+    done
 }
 
 fn decode(bytes: &[u8], count: usize, words: &mut [u64], numbers: &mut [f64])

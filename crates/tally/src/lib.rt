@@ -4,14 +4,11 @@
 ghost use Rattle.std.specs.Prelude.{◌≡◌, ◌<◌, if◌then◌else◌};
 ghost use Rattle.tally.specs.Tallies.{empty, one_unread, tallied};
 
-use libc::STDOUT_FILENO;
-use std::num::wrapping_add_u64;
-
 // One more than the last kind of a record.
 const KINDS: usize = 22;
 
 // How many answers of a record agree, and how many differ.
-#[derive(Drop)]
+#[derive(Clone, Copy)]
 pub enum Comparison {
     Answers { agree: u64, differ: u64 },
     // The record doesn't hold what its counts say.
@@ -19,7 +16,7 @@ pub enum Comparison {
 }
 
 // At index k the answers of the records of kind k.
-#[derive(Drop)]
+#[derive(Clone, Copy)]
 pub struct Tally {
     pub agree: [u64; KINDS],
     pub differ: [u64; KINDS],
@@ -27,7 +24,7 @@ pub struct Tally {
 }
 
 // A tally with one record more, and whether there may be another.
-#[derive(Drop)]
+#[derive(Clone, Copy)]
 pub struct Pass {
     pub tally: Tally,
     pub more: bool,
@@ -60,6 +57,7 @@ impl Tally {
     }
 
     // A record more. One of a kind that is none is not read. No sum wraps: it would take 2^52 records.
+    #[tactic(auto, unfolding(crate::specs::Tallies::tallied))]
     pub fn with(mut self, kind: u64, outcome: Comparison) -> Self
         ensures { result ≡ tallied kind outcome self }
     {
@@ -70,32 +68,31 @@ impl Tally {
             return self.one_unread();
         }
         let k = kind as usize;
-        self.agree[k] = wrapping_add_u64(self.agree[k], agree);
-        self.differ[k] = wrapping_add_u64(self.differ[k], differ);
+        self.agree[k] = self.agree[k].wrapping_add(agree);
+        self.differ[k] = self.differ[k].wrapping_add(differ);
         self
     }
 
     fn one_unread(mut self) -> Self
         ensures { result ≡ one_unread self }
     {
-        self.unread = wrapping_add_u64(self.unread, 1);
+        self.unread = self.unread.wrapping_add(1);
         self
     }
 }
 
-pub fn print_line(name: &[u8], tally: Tally, kind: u64)
+// What cannot be written is left out.
+pub fn print_line<R: Print>(rt: &R, name: &[u8], tally: Tally, kind: u64)
     requires { kind < 22 }
 {
     let k = kind as usize;
-    io::write_all(STDOUT_FILENO, name);
-    io::write_all(STDOUT_FILENO, b" ");
-    io::print_decimal(STDOUT_FILENO, tally.agree[k]);
-    io::write_all(STDOUT_FILENO, b" agree, ");
-    io::print_decimal(STDOUT_FILENO, tally.differ[k]);
-    io::write_all(STDOUT_FILENO, b" differ\n");
+    let agree = tally.agree[k];
+    let differ = tally.differ[k];
+    let _ = rt.write_all(name);
+    let _ = println!(rt; " {agree} agree, {differ} differ");
 }
 
-pub fn print_unread(tally: Tally) {
-    io::print_decimal(STDOUT_FILENO, tally.unread);
-    io::write_all(STDOUT_FILENO, b" records not read\n");
+pub fn print_unread<R: Print>(rt: &R, tally: Tally) {
+    let unread = tally.unread;
+    let _ = println!(rt; "{unread} records not read");
 }

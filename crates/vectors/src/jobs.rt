@@ -43,5 +43,5 @@ fn begins(out: &[u8; MOST_PRINTED], n: usize, printout: &[u8]) -> bool
     requires { n ≤ 72704 }
 {
     let out: &[u8] = out;
-    check::same(&out[0..n], printout)
+    &out[0..n] == printout
 }

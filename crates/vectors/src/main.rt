@@ -14,38 +14,43 @@ mod surfaces;
 ghost use Rattle.std.specs.Prelude.{◌≡◌, ◌*◌, ◌≤◌, length};
 
 use replay::{Input, MOST_RECORDS, MOST_WORDS};
+use std::io::Read;
 use tally::{Comparison, Pass, Tally, print_line, print_unread};
 
-fn main() {
-    let tally = replay_all();
-    print_line(b"is_finite", tally, kinds::IS_FINITE);
-    print_line(b"abs", tally, kinds::ABS);
-    print_line(b"max", tally, kinds::MAX);
-    print_line(b"clamp", tally, kinds::CLAMP);
-    print_line(b"root", tally, kinds::ROOT);
-    print_line(b"round", tally, kinds::ROUND);
-    print_line(b"rem_euclid", tally, kinds::REM_EUCLID);
-    print_line(b"weights", tally, kinds::WEIGHTS);
-    print_line(b"knots", tally, kinds::KNOTS);
-    print_line(b"snap", tally, kinds::SNAP);
-    print_line(b"span", tally, kinds::SPAN);
-    print_line(b"basis", tally, kinds::BASIS);
-    print_line(b"wrap", tally, kinds::WRAP);
-    print_line(b"evaluate", tally, kinds::EVALUATE);
-    print_line(b"nearest", tally, kinds::NEAREST);
-    print_line(b"invert", tally, kinds::INVERT);
-    print_line(b"plane", tally, kinds::PLANE);
-    print_line(b"derivative", tally, kinds::DERIVATIVE);
-    print_line(b"nurbs_singular", tally, kinds::NURBS_SINGULAR);
-    print_line(b"row", tally, kinds::ROW);
-    print_line(b"job", tally, kinds::JOB);
-    print_unread(tally);
+// The bytes of a record's words have room here.
+const MOST_BYTES: usize = 65536;
+
+fn main(rt: HostRuntime) {
+    let mut reader = rt.stdin();
+    let tally = replay_all(&mut reader);
+    print_line(&rt, b"is_finite", tally, kinds::IS_FINITE);
+    print_line(&rt, b"abs", tally, kinds::ABS);
+    print_line(&rt, b"max", tally, kinds::MAX);
+    print_line(&rt, b"clamp", tally, kinds::CLAMP);
+    print_line(&rt, b"root", tally, kinds::ROOT);
+    print_line(&rt, b"round", tally, kinds::ROUND);
+    print_line(&rt, b"rem_euclid", tally, kinds::REM_EUCLID);
+    print_line(&rt, b"weights", tally, kinds::WEIGHTS);
+    print_line(&rt, b"knots", tally, kinds::KNOTS);
+    print_line(&rt, b"snap", tally, kinds::SNAP);
+    print_line(&rt, b"span", tally, kinds::SPAN);
+    print_line(&rt, b"basis", tally, kinds::BASIS);
+    print_line(&rt, b"wrap", tally, kinds::WRAP);
+    print_line(&rt, b"evaluate", tally, kinds::EVALUATE);
+    print_line(&rt, b"nearest", tally, kinds::NEAREST);
+    print_line(&rt, b"invert", tally, kinds::INVERT);
+    print_line(&rt, b"plane", tally, kinds::PLANE);
+    print_line(&rt, b"derivative", tally, kinds::DERIVATIVE);
+    print_line(&rt, b"nurbs_singular", tally, kinds::NURBS_SINGULAR);
+    print_line(&rt, b"row", tally, kinds::ROW);
+    print_line(&rt, b"job", tally, kinds::JOB);
+    print_unread(&rt, tally);
 }
 
-fn replay_all() -> Tally {
+fn replay_all<S: Read>(reader: &mut S) -> Tally {
     let mut tally = Tally::new();
     for n in 0..MOST_RECORDS {
-        let turn = one_record(tally);
+        let turn = one_record(reader, tally);
         tally = turn.tally;
         if !turn.more {
             return tally;
@@ -54,11 +59,11 @@ fn replay_all() -> Tally {
     tally
 }
 
-fn one_record(tally: Tally) -> Pass {
-    let mut bytes = io::large_buffer();
+fn one_record<S: Read>(reader: &mut S, tally: Tally) -> Pass {
+    let mut bytes = [0u8; MOST_BYTES];
     let mut words = [0u64; MOST_WORDS];
     let mut numbers = [0.0f64; MOST_WORDS];
-    let next = replay::next_record(&mut bytes, &mut words, &mut numbers);
+    let next = replay::next_record(reader, &mut bytes, &mut words, &mut numbers);
     let input = next.input;
     let count = next.count;
     let size = 8 * count;

@@ -165,7 +165,7 @@ fn begins(bytes: &[u8], ends: &[u8]) -> bool {
     if bytes.len() < ends.len() {
         return false;
     }
-    check::same(&bytes[0..ends.len()], ends)
+    &bytes[0..ends.len()] == ends
 }
 
 // The refusal's number, or 0; the index of its mark; the units left.
