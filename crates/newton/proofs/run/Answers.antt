@@ -17,8 +17,7 @@ use Rattle.newton.specs.declared.Outcome.TheVariants.{Refused, Spent}
 use Rattle.newton.specs.Run.{clamp_into, measured, held, rounds, started, finished, outcome_of}
 use Rattle.newton.specs.RunLaws.{finished-count}
 use Rattle.newton.specs.OutcomeLaws.{short-told, refused-told}
-use Rattle.newton.proofs.run.Statement.{statement}
-use Rattle.newton.proofs.run.Tie as tie
+use Rattle.newton.proofs.run.Goals as goal
 
 module _ (d : Domain) (mark : Vector3) (eval : Float → Float → Evaluated) (budget : ℕ) (u v : Float) where
   abbrev answer : Outcome
@@ -36,38 +35,23 @@ module _ (d : Domain) (mark : Vector3) (eval : Float → Float → Evaluated) (b
     unfolding finished started
     begins j f l e = e ∙ simp (l, ← p, ← q, ← w, f)
 
-returns : tie.Need-returns
-returns c = unstarted _ _ _ _ _ _ c.if1.true
+pub returns-then-budget-eq0 : goal.returns-then-budget-eq0
+returns-then-budget-eq0 c = unstarted _ _ _ _ _ _ c.if-budget-eq0.true
 
-returns-2 : tie.Need-returns-2
-returns-2 c =
-    let to = c.before.before in
-    let at = to.before.before in
-    unfound _ _ _ _ _ _ _ _ at.clamp-into.ensures to.before.clamp-into2.ensures to.scaled-jet.ensures at.before.before.if1.false c.enum_told.given.1
+pub returns-in_default : goal.returns-in_default
+returns-in_default c =
+    let to = c in
+    let at = to in
+    unfound _ _ _ _ _ _ _ _ at.clamp_into-u.ensures to.clamp_into-v.ensures to.scaled_jet.ensures at.if-budget-eq0.false c.in_default.is
 
-rounds-requires : tie.Need-rounds-requires
-rounds-requires c κs =
-    let from = c.before.before.before.before.before.before.before.before in
-    (from.before.before.before.before.before.requires, omega (arith, from.if1.false), simp c.measure.ensures)
+pub rounds-requires : goal.rounds-requires
+rounds-requires c =
+    let from = c in
+    (from.requires, omega (arith, from.if-budget-eq0.false), simp c.measure-measured.ensures)
 
-returns-3 : tie.Need-returns-3
-returns-3 c =
-    let is = c.before.before.before in
-    let to = is.before.before in
-    let at = to.before.before in
-    begins _ _ _ _ _ _ _ _ at.clamp-into.ensures to.before.clamp-into2.ensures to.scaled-jet.ensures _ is.jet.given.1 c.before.measure.ensures c.rounds.ensures
-
-pub run_spec : {M : Type 1} → statement M
-run_spec =
-    tie.close
-    (tie.spec
-    returns
-    (λ c κs. search rules)
-    (λ c κs. search rules)
-    (λ c κs. search rules)
-    (λ c. search rules)
-    (λ c. search rules)
-    returns-2
-    (λ c κs. search rules)
-    rounds-requires
-    returns-3)
+pub returns : goal.returns
+returns c =
+    let is = c in
+    let to = is in
+    let at = to in
+    begins _ _ _ _ _ _ _ _ at.clamp_into-u.ensures to.clamp_into-v.ensures to.scaled_jet.ensures _ is.in-Found.is c.measure-measured.ensures c.rounds.ensures

@@ -1,0 +1,8 @@
+-- What `solve` says of five products.
+use borrow.Author.Rules.{rules}
+use Rattle.newton.specs.Run.{step_of}
+use Rattle.newton.proofs.round.step_of.Goals as goal
+
+pub returns : goal.returns
+unfolding step_of
+returns c = cc
