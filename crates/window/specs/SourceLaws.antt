@@ -301,7 +301,8 @@ module _ (a : Axis) (ok : refusal_of_knots a ≡ 0) where
   rises : Chain lt (start_of a (low a)) (inner_of a (low a) (high a) ++ (high a ∷ []))
   rises = rw end-high at (breaks-rise a ok (low a) (high a) whole)
 
-  source-count : length (source_breaks a) ≡ length (inner_of a (low a) (high a)) + 2
+  -- as many as the window has breaks
+  pub source-count : length (source_breaks a) ≡ length (inner_of a (low a) (high a)) + 2
   source-count = let d = source-breaks in omega (arith, ap length d.is, length-append (inner_of a (low a) (high a)) (d.last ∷ []))
 
   abbrev skip : ℕ

@@ -8,6 +8,7 @@ use Rattle.std.specs.Float.Ieee.{lt, le}
 use Rattle.std.proofs.lemmas.Bool.{not-false}
 use Rattle.float64.specs.Functions.{is_finite, clamp}
 use Rattle.float64.specs.Order.{neither, le_refl, le→number, lt→le, le_not_lt, finite→number}
+use Rattle.spline.specs.Knots.{refusal_of_knots}
 use Rattle.spline.specs.KnotLaws.{accepted}
 use Rattle.patch.specs.declared.Jet.{Jet}
 use Rattle.patch.specs.declared.Evaluated.TheVariants.{Found}
@@ -92,6 +93,11 @@ module _ (d : Domain) where
   unfolding window_in
   both-double u v Whole f = (u, v)
   both-double u v (Within a b c e) f = (window-double d.u a b u f.0 f.1, window-double d.v c e v f.2 f.3)
+
+-- the window of accepted knots that passes check 24
+pub window-in-domain : (s : Surface) → refusal_of_knots (axis_u s) ≡ 0 → refusal_of_knots (axis_v s) ≡ 0 → misfits s.shape.window (domain_of s) ≡ false
+    → Grid.Within (axis_u s) (window_of s).u.low (window_of s).u.high × Grid.Within (axis_v s) (window_of s).v.low (window_of s).v.high
+window-in-domain s ku kv w = both-in (domain_of s) (accepted (axis_u s) ku).wide (accepted (axis_v s) kv).wide s.shape.window w
 
 module _ (s : Surface) (ok : AcceptedSurface s) where
   in-domain : In (domain_of s).u (window_of s).u × In (domain_of s).v (window_of s).v
