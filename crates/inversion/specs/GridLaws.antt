@@ -125,22 +125,26 @@ module _ (mark : Vector3) (eval : Float → Float → Evaluated) where
   row_of-meets x y j p (z ∷ ys) below (Memᴰ.head e) = rw (← e) (rw p (met x y j (row_of mark eval x ys below)))
   row_of-meets x y j p (z ∷ ys) below (Memᴰ.tail m) =
       seen-sees _ (onward x y j) _ x z (eval x z) refl (row_of-meets x y j p ys below m)
+  row_of-meets x y j p [] below x'' = elim x'' [ ]
 
   pub survey-meets : (x y : Float) (j : Jet) → eval x y ≡ Found j → (us vs : List Float) → Memᴰ x us → Memᴰ y vs → Meets x y j (survey mark eval us vs)
   unfolding survey
   survey-meets x y j p (z ∷ us) vs (Memᴰ.head e) m = rw (← e) (row_of-meets x y j p vs (survey mark eval us vs) m)
   survey-meets x y j p (z ∷ us) vs (Memᴰ.tail l) m = row_of-sees _ (onward x y j) z vs _ (survey-meets x y j p us vs l m)
+  survey-meets x y j p [] vs x3 m = elim x3 [ ]
 
   -- where no evaluation of the walk refuses, none of the grid does
   row_of-refuses : (x y : Float) → eval x y ≡ Refused → (ys : List Float) (below : Priced (List Start)) → Memᴰ y ys → Sees (λ ps. ⊥) (row_of mark eval x ys below)
   unfolding row_of seen
   row_of-refuses x y p (z ∷ ys) below (Memᴰ.head e) = rw (← e) (rw p tt)
   row_of-refuses x y p (z ∷ ys) below (Memᴰ.tail m) = seen-sees (λ ps. ⊥) (λ q s ps h. h) _ x z (eval x z) refl (row_of-refuses x y p ys below m)
+  row_of-refuses x y p [] below x'' = elim x'' [ ]
 
   survey-refuses : (x y : Float) → eval x y ≡ Refused → (us vs : List Float) → Memᴰ x us → Memᴰ y vs → Sees (λ ps. ⊥) (survey mark eval us vs)
   unfolding survey
   survey-refuses x y p (z ∷ us) vs (Memᴰ.head e) m = rw (← e) (row_of-refuses x y p vs (survey mark eval us vs) m)
   survey-refuses x y p (z ∷ us) vs (Memᴰ.tail l) m = row_of-sees (λ ps. ⊥) (λ q s ps h. h) z vs _ (survey-refuses x y p us vs l m)
+  survey-refuses x y p [] vs x3 m = elim x3 [ ]
 
   pub survey-found : (us vs : List Float) (ps : List Start) (n : ℕ) → survey mark eval us vs ≡ answered ps n → (x y : Float) → Memᴰ x us → Memᴰ y vs → (j : Jet) × (eval x y ≡ Found j)
   survey-found us vs ps n w x y mx my = by (eval x y) refl

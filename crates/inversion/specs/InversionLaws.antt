@@ -304,7 +304,7 @@ module _ (d : Domain) (mark : Vector3) (eval : Float → Float → Evaluated) wh
             (e, Memᴰ.head refl, rw same at (rw p at l))
 
         -- an end among those of the starts stands, with its number, among the candidates
-        numbered-at : (P : End → Type 0) (i : ℕ) {a : End} {es : List End} → Memᴰ a es → All (λ c. P c.end) (numbered i es) → P a
+        numbered-at : (P : End → Type 0) {a : End} (i : ℕ) {es : List End} → Memᴰ a es → All (λ c. P c.end) (numbered i es) → P a
         unfolding numbered
         numbered-at P i (Memᴰ.head e) h = rw e h.0
         numbered-at P i (Memᴰ.tail m) h = numbered-at P (suc i) m h.1

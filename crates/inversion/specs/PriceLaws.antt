@@ -24,6 +24,11 @@ use Rattle.inversion.specs.declared.Best.TheVariants.{Nothing, At}
 use Rattle.inversion.specs.Inversion.{of_hint, numbered, within, led, choose, runs, searched, explored, unless_close, hinted, plain_steps}
 use Rattle.inversion.specs.GridLaws.{survey-price, starts-six}
 
+-- what the runs take at most: six of 33 evaluations from the starts, and that of a hint, which is charged twice
+unfoldable pub runs_for : Hint → ℕ
+runs_for Hint.Nothing = 198
+runs_for (Hint.At u v) = 264
+
 choose-most : (k : ℕ) (cs : List Choice) → price (choose k cs) ≤ k
 unfolding choose
 choose-most k [] = omega arith
@@ -88,3 +93,28 @@ module _ (d : Domain) (mark : Vector3) (eval : Float → Float → Evaluated) wh
         let x = explored-bounds Nothing 0 in
         record { above = x.above; under = omega (arith, x.under) }
     price-bounds (Hint.At u v) tolerance = hinted-bounds tolerance (run d mark eval u v) (run-count d mark eval u v)
+
+    -- the size of the grid and what a hint adds to it bound the price
+    grid-most : price (survey mark eval us vs) ≤ length us * length vs
+    grid-most = (survey-price mark eval us vs (mul-le-mul hu.above hv.above)).under
+
+    close-most : (t : Bool) (e : End) (k : ℕ) → k ≤ 33 → price (unless_close d mark eval us vs t e k) ≤ length us * length vs + 264
+    unfolding unless_close
+    close-most true e k h = omega (arith, h)
+    close-most false e k h =
+        let p = after-price k (explored d mark eval us vs (At (of_hint e)) k) in
+        omega (arith, h, explored-most (At (of_hint e)) k, grid-most, p)
+
+    hinted-most : (tolerance : Float) (r : Priced End) → price r ≤ 33 → price (hinted d mark eval us vs tolerance r) ≤ length us * length vs + 264
+    unfolding hinted
+    hinted-most tolerance (refused k) h = omega (arith, h)
+    hinted-most tolerance (answered e k) h = close-most (within e tolerance) e k h
+
+    by-grid : (hint : Hint) (tolerance : Float) → price (plain_steps d mark eval us vs hint tolerance) ≤ length us * length vs + runs_for hint
+    unfolding plain_steps runs_for
+    by-grid Hint.Nothing tolerance = omega (arith, explored-most Nothing 0, grid-most)
+    by-grid (Hint.At u v) tolerance = hinted-most tolerance (run d mark eval u v) (run-count d mark eval u v).under
+
+    -- at least one evaluation, and at most the grid's and those of the runs
+    pub price-by-grid : (hint : Hint) (tolerance : Float) → Between 1 (price (plain_steps d mark eval us vs hint tolerance)) (length us * length vs + runs_for hint)
+    price-by-grid hint tolerance = record { above = (price-bounds hint tolerance).above; under = by-grid hint tolerance }

@@ -1,5 +1,5 @@
 -- Demand 3 on a surface that passed its checks and a finite mark: what the laws for any evaluation ask of it holds. Assumes nothing.
-use Rattle.std.specs.Prelude.{◌≡◌, Bool, true, false, ℕ, length, Float}
+use Rattle.std.specs.Prelude.{◌≡◌, Bool, true, false, ℕ, ◌+◌, ◌*◌, length, Float}
 use Rattle.std.proofs.Common.{◌∙◌, arith}
 use mathlib.Core.List.{List, Memᴰ}
 use Rattle.std.specs.Float.Ieee.{is_nan, le}
@@ -36,6 +36,7 @@ use Rattle.inversion.specs.Inversion.{inversion_by}
 use Rattle.inversion.specs.Visits.{evaluations_by}
 use Rattle.inversion.specs.Nearest.{First}
 use Rattle.inversion.specs.PriceLaws as Prices
+use Rattle.inversion.specs.PriceLaws.{runs_for}
 use Rattle.inversion.specs.VisitLaws.{steps-evaluate}
 use Rattle.inversion.specs.OriginLaws as Origins
 use Rattle.inversion.specs.InversionLaws as Plain
@@ -79,6 +80,11 @@ module _ (s : Surface) (m : Float) (ok : refusal_of_surface s ≡ 0) where
 
   counted-v : Between 1 (length (values_v s)) 193
   counted-v = counted (axis_v s) sound.knots-v _ _ (window-within-v s sound)
+
+  -- by its grid
+  pub price-by-grid : (mark : Vector3) (hint : Hint) (tolerance : Float) → Between 1 (price (inversion_by s m mark hint tolerance)) (length (values_u s) * length (values_v s) + runs_for hint)
+  unfolding inversion_by
+  price-by-grid mark hint tolerance = Prices.price-by-grid (window_of s) mark (evaluate_by s m) (values_u s) (values_v s) counted-u counted-v hint tolerance
 
   -- "an inversion on it has one price, .. 1 to 37,513"
   pub price-bounds : (mark : Vector3) (hint : Hint) (tolerance : Float) → Between 1 (price (inversion_by s m mark hint tolerance)) 37513
