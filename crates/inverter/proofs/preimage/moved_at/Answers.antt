@@ -7,8 +7,7 @@ use Rattle.inverter.specs.declared.Components.{Components}
 use Rattle.inverter.specs.declared.Components.TheVariants.{Refusal}
 use Rattle.inverter.specs.Preimage.{moved, moved_from}
 use borrow.Author.Rules.{rules}
-use Rattle.inverter.proofs.preimage.moved_at.Statement.{statement}
-use Rattle.inverter.proofs.preimage.moved_at.Tie as tie
+use Rattle.inverter.proofs.preimage.moved_at.Goals as goal
 
 module _ (d : Vector3) {e f : Evaluated} (p : e ≡ f) where
   nowhere : e ≡ Refused → Refusal 9 1 ≡ moved_from d f
@@ -19,14 +18,10 @@ module _ (d : Vector3) {e f : Evaluated} (p : e ≡ f) where
   unfolding moved_from
   there h q = q ∙ simp (← p, h)
 
-returns : tie.Need-returns
-returns c = nowhere _ c.before.before.surface-jet.ensures c.enum_told.given.1
+pub returns-in_default : goal.returns-in_default
+returns-in_default c = nowhere _ c.surface_jet.ensures c.in_default.is
 
-returns-2 : tie.Need-returns-2
-returns-2 c =
-    let to = c.before.before in
-    there _ to.before.before.surface-jet.ensures to.j.given.1 c.moved.ensures
-
-pub moved-at-spec : {M : Type 1} → statement M
-moved-at-spec =
-    tie.close (tie.spec (λ c κs. search rules) (λ c. search rules) (λ c. search rules) returns (λ c κs. search rules) returns-2)
+pub returns : goal.returns
+returns c =
+    let to = c in
+    there _ to.surface_jet.ensures to.in-Found.is c.moved.ensures
