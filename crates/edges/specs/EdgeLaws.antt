@@ -46,6 +46,7 @@ module _ (eval : Float → Float → Evaluated) (l : Line) where
     unfolding all_near
     all-near (suc n) i h zero b = rw zero-add (is-near tolerance p (jet_on eval l i) (both (near tolerance p (jet_on eval l i)) _ h).0)
     all-near (suc n) i h (suc m) b = rw (suc-add, ← add-suc) (all-near n (suc i) (both (near tolerance p (jet_on eval l i)) _ h).1 m (omega arith))
+    all-near zero i h m b = elim b [ ]
 
     near-all : (n i : ℕ) → ((m : ℕ) → m < n → Near tolerance p (jet_on eval l (m + i))) → all_near eval l tolerance p n i ≡ true
     unfolding all_near

@@ -45,7 +45,7 @@ pub fn layout_of(bytes: &[u8]) -> Layout
     if bytes.len() < HEADER_SIZE {
         return Layout::Malformed;
     }
-    if !is_mark(bytes, 0, b's', b'f') {
+    if !is_mark(bytes, 0, b'S', b'F') {
         return Layout::Malformed;
     }
     if 7 < bytes[8] {
@@ -162,7 +162,7 @@ fn after_surface(bytes: &[u8], shape: Shape) -> Layout
     if bytes.len() < at + TERMS_SIZE {
         return Layout::Malformed;
     }
-    if !is_mark(bytes, at, b't', b'l') {
+    if !is_mark(bytes, at, b'T', b'L') {
         return Layout::Malformed;
     }
     let left = bytes.len() - (at + TERMS_SIZE);
@@ -201,7 +201,7 @@ fn all_marks(bytes: &[u8], at: usize, marks: usize) -> bool
     ensures { mark_records marks (drop at bytes.now) ≡ cond result (read (marks_at marks bytes.now at) (drop (at + mark_size * marks) bytes.now)) malformed }
 {
     for i in 0..marks {
-        if !is_mark(bytes, at + MARK_SIZE * i, b'm', b'k') {
+        if !is_mark(bytes, at + MARK_SIZE * i, b'M', b'K') {
             return false;
         }
     }
