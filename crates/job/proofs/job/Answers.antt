@@ -1,0 +1,22 @@
+-- `job::job` meets its contract: what is put at the buffer's front is the printout. Assumes nothing.
+use native.Mathlib.Omega.{arith}
+use Rattle.job.proofs.Numbers.{laid-fits, prints-refusal, prints-job, put_front}
+use borrow.Author.Rules.{rules}
+use Rattle.job.proofs.job.Goals as goal
+
+pub print_job-requires : goal.print_job-requires
+print_job-requires c =
+    let l = c in
+    laid-fits _ l.layout_of-layout.result _ _ l.layout_of-layout.ensures.laid c.in-WellFormed.is
+
+pub returns-in-Malformed : goal.returns-in-Malformed
+returns-in-Malformed c =
+    let l = c in
+    let a = l.args in
+    put_front (prints-refusal a.bytes.now l.layout_of-layout.result l.layout_of-layout.ensures.bytes_value c.in-Malformed.is) (omega (arith, c.put_refusal.ensures.laid)) c.put_refusal.ensures.bytes_value
+
+pub returns-in-WellFormed : goal.returns-in-WellFormed
+returns-in-WellFormed c =
+    let l = c in
+    let a = l.args in
+    put_front (prints-job a.bytes.now l.layout_of-layout.result l.layout_of-layout.ensures.bytes_value _ _ c.in-WellFormed.is) c.print_job.ensures.upper_bound c.print_job.ensures.put
