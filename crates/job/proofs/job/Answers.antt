@@ -11,12 +11,14 @@ print_job-requires c =
 
 pub returns-in-Malformed : goal.returns-in-Malformed
 returns-in-Malformed c =
-    let l = c in
-    let a = l.args in
-    put_front (prints-refusal a.bytes.now l.layout_of-layout.result l.layout_of-layout.ensures.bytes_value c.in-Malformed.is) (omega (arith, c.put_refusal.ensures.laid)) c.put_refusal.ensures.bytes_value
+    let l = c.layout_of-layout in
+    let a = c.args in
+    let p = put_front (prints-refusal a.bytes.now l.result l.ensures.bytes_value c.in-Malformed.is) (omega (arith, c.put_refusal.ensures.upper_bound)) c.put_refusal.ensures.put in
+    record { out_after = p.0; value = p.1 }
 
 pub returns-in-WellFormed : goal.returns-in-WellFormed
 returns-in-WellFormed c =
-    let l = c in
-    let a = l.args in
-    put_front (prints-job a.bytes.now l.layout_of-layout.result l.layout_of-layout.ensures.bytes_value _ _ c.in-WellFormed.is) c.print_job.ensures.upper_bound c.print_job.ensures.put
+    let l = c.layout_of-layout in
+    let a = c.args in
+    let p = put_front (prints-job a.bytes.now l.result l.ensures.bytes_value _ _ c.in-WellFormed.is) c.print_job.ensures.upper_bound c.print_job.ensures.put in
+    record { out_after = p.0; value = p.1 }

@@ -56,7 +56,7 @@ loop-i-preserved c =
     let a = to.args in
     let placed = c.in-Placed.is in (
       omega arith,
-      omega (arith, q.put_step-at.ensures.upper_bound, q.put_step-at.ensures.put.size, l.invariant.upper_bound),
+      omega (arith, q.put_step-at.ensures.upper_bound, q.put_step-at.ensures.put.size, l.invariant.1),
       q.put_step-at.ensures.put.size ∙ l.invariant.2,
       (rw placed at (printable _ _ _ l.invariant.3 _ p.step-stepped.ensures)).1,
       rest_goes l.invariant.4 _ _ _ _

@@ -24,8 +24,8 @@ print_row-requires c =
     let n = v.controls-total.ensures.0 in
     let f = st.requires.0 in
     queue-fits _ _ _ _ _ _ _ w.queue_at-queue.ensures
-    (omega (arith, f.whole, v.knots-ku_end.ensures.0, v.knots.ensures.0, n, z.type_inv.ensures.0))
-    (omega (arith, f.few, f.whole, m.put_marks-from.ensures.1, m.put_marks-from.ensures.0.size, st.requires.3))
+    (omega (arith, f.whole, v.knots-ku_end.ensures.0, v.knots.ensures.0, n, z.size_of.ensures.0))
+    (omega (arith, f.few, f.whole, m.put_marks-from.ensures.upper_bound, m.put_marks-from.ensures.put.size, st.requires.3))
 
 pub returns : goal.returns
 returns c =
@@ -41,6 +41,6 @@ returns c =
     let b = a + v.knots.result in
     let k = b + 3 * n.result in
     let p = put_as
-    (job_is g.bytes.now g.shape g.numbers.now st.requires.2 g.marks a b k (k + n.result) z.type_inv.result v.knots-ku_end.ensures.0 (omega (arith, v.knots.ensures.0)) (omega (arith, n.ensures.0)) (omega (arith, n.ensures.0)) z.type_size.ensures.0 w.queue_at-queue.result w.queue_at-queue.ensures)
-    (put_then m.put_marks-from.ensures.0 q.print_row.ensures) in
-    (p, omega (arith, p.inside, st.requires.3))
+    (job_is g.bytes.now g.shape g.numbers.now st.requires.2 g.marks a b k (k + n.result) z.size_of.result v.knots-ku_end.ensures.0 (omega (arith, v.knots.ensures.0)) (omega (arith, n.ensures.0)) (omega (arith, n.ensures.0)) z.size_of.ensures.0 w.queue_at-queue.result w.queue_at-queue.ensures)
+    (put_then m.put_marks-from.ensures.put q.print_row.ensures) in
+    record { put = p; upper_bound = omega (arith, p.inside, st.requires.3) }
