@@ -24,15 +24,16 @@ surface-is ws c du dv nu nv flags ku kv controls weights window w shape = cc
 pub returns-clause-value : goal.returns-clause-value
 returns-clause-value c =
     surface-is _ _
-    c.word-du.ensures.value
-    c.word-dv.ensures.value
-    c.word-nu.ensures.value
-    c.word-nv.ensures.value
-    c.word-flags.ensures.value
-    c.numbers-ku.ensures.value
-    c.numbers-kv.ensures.value
-    c.numbers-controls.ensures.value
-    c.numbers-weights.ensures.value
-    c.numbers-window.ensures.value
-    c.window_by.ensures
-    c.shape_of-shape.ensures
+    c.word-du.ensures.value c.word-dv.ensures.value c.word-nu.ensures.value c.word-nv.ensures.value c.word-flags.ensures.value
+    c.numbers-ku.ensures.value c.numbers-kv.ensures.value c.numbers-controls.ensures.value c.numbers-weights.ensures.value c.numbers-window.ensures.value
+    c.window_by.ensures c.shape_of-shape.ensures
+
+pub returns-clause-inside : goal.returns-clause-inside
+returns-clause-inside c =
+    record {
+      ku = c.numbers-ku.ensures.within;
+      kv = c.numbers-kv.ensures.within;
+      controls = c.numbers-controls.ensures.within;
+      weights = c.numbers-weights.ensures.within;
+      window = c.numbers-window.ensures.within;
+    }
