@@ -51,3 +51,24 @@ pub fn fail<R: Eprint>(rt: &R, what: &str, error: io::Error) {
     let cause = Cause(error);
     let _ = eprintln!(rt; "{what}: {cause}");
 }
+
+#[cfg(test)]
+mod tests {
+    use super::*;
+
+    #[test]
+    fn the_system_s_number_is_cut_off(rt: HostRuntime) -> io::Result<()> {
+        let cause = Cause(io::Error::from_raw_os_error(21));
+        let told = format!(in rt.alloc(); "{cause}")?;
+        assert_eq!(rt; told.as_str(), "Is a directory");
+        Ok(())
+    }
+
+    #[test]
+    fn words_of_the_library_stay(rt: HostRuntime) -> io::Result<()> {
+        let cause = Cause(io::Error::new(io::ErrorKind::WriteZero, "nothing was taken"));
+        let told = format!(in rt.alloc(); "{cause}")?;
+        assert_eq!(rt; told.as_str(), "nothing was taken");
+        Ok(())
+    }
+}

@@ -71,3 +71,89 @@ fn after(have: usize, more: usize, failed: bool, interrupted: bool) -> Input
     }
     Input::There(have + more)
 }
+
+#[cfg(test)]
+mod tests {
+    use super::*;
+    use std::fmt::Display;
+    use std::io;
+
+    // Gives a byte a read, and at every second read an interruption; after `left` bytes the end, or a failure.
+    #[derive(Drop)]
+    struct Slow {
+        left: u8,
+        interrupts: bool,
+        fails: bool,
+    }
+
+    impl Read for Slow {
+        fn read(&mut self, buf: &mut [u8]) -> io::Result<usize> {
+            if self.interrupts {
+                self.interrupts = false;
+                return Err(io::Error::from(ErrorKind::Interrupted));
+            }
+            self.interrupts = true;
+            if self.left == 0 {
+                if self.fails {
+                    return Err(io::Error::from(ErrorKind::Other));
+                }
+                return Ok(0);
+            }
+            if buf.len() == 0 {
+                return Ok(0);
+            }
+            self.left -= 1;
+            buf[0] = self.left;
+            Ok(1)
+        }
+    }
+
+    // What fails is not told.
+    #[derive(Drop)]
+    struct Silent;
+
+    impl Eprint for Silent {
+        fn eprint<D: Display + Drop>(&self, _value: D) -> io::Result<()> {
+            Ok(())
+        }
+
+        fn eprintln<D: Display + Drop>(&self, _value: D) -> io::Result<()> {
+            Ok(())
+        }
+    }
+
+    #[test]
+    fn interrupted_reads_are_made_again(rt: HostRuntime) {
+        let mut bytes = [9u8; 8];
+        let mut slow = Slow {
+            left: 3,
+            interrupts: true,
+            fails: false,
+        };
+        assert_eq!(rt; read_rest(&Silent, &mut slow, &mut bytes, 2), 5);
+        assert_eq!(rt; bytes, [9, 9, 2, 1, 0, 9, 9, 9]);
+    }
+
+    #[test]
+    fn no_more_is_read_than_there_is_room_for(rt: HostRuntime) {
+        let mut bytes = [9u8; 4];
+        let mut slow = Slow {
+            left: 30,
+            interrupts: true,
+            fails: true,
+        };
+        assert_eq!(rt; read_rest(&Silent, &mut slow, &mut bytes, 1), 4);
+        assert_eq!(rt; bytes, [9, 29, 28, 27]);
+    }
+
+    #[test]
+    fn a_failed_read_leaves_none(rt: HostRuntime) {
+        let mut bytes = [9u8; 8];
+        let mut slow = Slow {
+            left: 3,
+            interrupts: true,
+            fails: true,
+        };
+        assert_eq!(rt; read_rest(&Silent, &mut slow, &mut bytes, 2), 0);
+    }
+}

@@ -16,22 +16,19 @@ use domain::Window;
 use patch::Evaluated;
 use spline::KnotSide;
 
-#[unsafe(no_mangle)]
-pub extern "C" fn time_root(x: f64) -> f64
+pub fn time_root(x: f64) -> f64
     ensures { result ≡ root x }
 {
     float64::root(x)
 }
 
-#[unsafe(no_mangle)]
-pub extern "C" fn time_rem_euclid(x: f64, y: f64) -> f64
+pub fn time_rem_euclid(x: f64, y: f64) -> f64
     ensures { result ≡ rem_euclid x y }
 {
     float64::rem_euclid(x, y)
 }
 
-#[unsafe(no_mangle)]
-pub extern "C" fn time_basis(knots: &[f64], degree: usize, controls: usize, u: f64) -> f64
+pub fn time_basis(knots: &[f64], degree: usize, controls: usize, u: f64) -> f64
     requires { refusal_of_knots (axis degree controls knots.now) ≡ 0 }
     ensures { result ≡ of_sample (basis_at (axis degree controls knots.now) Right u) }
 {
@@ -43,8 +40,7 @@ pub extern "C" fn time_basis(knots: &[f64], degree: usize, controls: usize, u: f
 }
 
 // No axis is periodic, and the window is the whole domain.
-#[unsafe(no_mangle)]
-pub extern "C" fn time_evaluate(
+pub fn time_evaluate(
     pu: usize,
     pv: usize,
     nu: usize,

@@ -3,20 +3,16 @@ use Prim.Native.Nat.{ℕ, zero, suc}
 use lib.Ieee.{Float}
 use Rattle.inversion.specs.declared.Hint.TheVariants.{At}
 use Rattle.search_records.specs.Search.{hint_by}
-use Rattle.search_records.proofs.hint_of.Statement.{statement}
-use Rattle.search_records.proofs.hint_of.Tie as tie
+use Rattle.search_records.proofs.hint_of.Goals as goal
 
 given : (n : ℕ) (u v : Float) → (n ≡ 0 → ⊥) → At u v ≡ hint_by n u v
 unfolding hint_by
 given zero u v h = absurd (h refl)
 given (suc k) u v h = refl
 
-returns : tie.Need-returns
+pub returns-then-given-eq0 : goal.returns-then-given-eq0
 unfolding hint_by
-returns c = simp c.if1.true
+returns-then-given-eq0 c = simp c.if-given-eq0.true
 
-returns-2 : tie.Need-returns-2
-returns-2 c = given _ _ _ c.if1.false
-
-pub hint-of-spec : {M : Type 1} → statement M
-hint-of-spec = tie.close (tie.spec returns returns-2)
+pub returns : goal.returns
+returns c = given _ _ _ c.if-given-eq0.false
