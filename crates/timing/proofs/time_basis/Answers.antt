@@ -3,14 +3,11 @@ use mathlib.Core.Bool.{true, false}
 use Prim.Native.Nat.{ℕ}
 use lib.ListN.{get_or}
 use lib.Ieee.{nan, of_bits, div}
-use borrow.Author.Tests.{not-true, not-false}
 use Rattle.float64.specs.Operators.{◌⊕◌}
 use Rattle.basis.specs.declared.Basis.{Basis}
 use Rattle.basis.specs.Basis.{Sample, shown, threes}
 use Rattle.timing.specs.Digest.{of_sample}
-use borrow.Author.Rules.{rules}
-use Rattle.timing.proofs.time_basis.Statement.{statement}
-use Rattle.timing.proofs.time_basis.Tie as tie
+use Rattle.timing.proofs.time_basis.Goals as goal
 
 -- by whether the basis was found
 module _ (p : ℕ) (b : Basis) {s : Sample} (e : shown p b ≡ s) where
@@ -22,22 +19,11 @@ module _ (p : ℕ) (b : Basis) {s : Sample} (e : shown p b ≡ s) where
   unfolding shown threes of_sample
   present f = sym (ap of_sample (sym e) ∙ simp f)
 
-returns : tie.Need-returns
+pub returns-then-not-b : goal.returns-then-not-b
 unfolding of_bits div
-returns c = absent _ c.before.basis-on-side.result c.before.basis-on-side.ensures (not-true _ c.if1.true)
+returns-then-not-b c = absent _ c.basis_on_side-b.result c.basis_on_side-b.ensures (c.if-not-b.true)
 
-returns-2 : tie.Need-returns-2
-returns-2 c =
-    let at = c.before.before.before in
-    present _ at.before.basis-on-side.result at.before.basis-on-side.ensures (not-false _ at.if1.false)
-
-pub time-basis-spec : {M : Type 1} → statement M
-time-basis-spec =
-    tie.close
-    (tie.spec
-    (λ c κs. search rules)
-    returns
-    (λ c. search rules)
-    (λ c. search rules)
-    (λ c. search rules)
-    returns-2)
+pub returns : goal.returns
+returns c =
+    let at = c in
+    present _ at.basis_on_side-b.result at.basis_on_side-b.ensures (at.if-not-b.false)
