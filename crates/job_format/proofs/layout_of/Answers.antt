@@ -2,13 +2,8 @@
 use mathlib.Core.Path.{◌∙◌}
 use native.Mathlib.Omega.{arith}
 use Rattle.job_format.specs.Offsets.{told}
-use Rattle.job_format.specs.FormatLaws.{too_long}
 use Rattle.job_format.proofs.Steps.{no_header, no-surface, wrong-flags, past-header}
 use Rattle.job_format.proofs.layout_of.Goals as goal
-
-pub returns-then-bytes-gt-MOST_BYTES : goal.returns-then-bytes-gt-MOST_BYTES
-unfolding told
-returns-then-bytes-gt-MOST_BYTES c = record { bytes_value = too_long c.args.bytes.now (omega arith); laid = tt }
 
 pub returns-then-bytes-lt-HEADER_SIZE : goal.returns-then-bytes-lt-HEADER_SIZE
 unfolding told
