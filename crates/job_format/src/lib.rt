@@ -35,6 +35,7 @@ struct Header {
     windowed: bool,
 }
 
+#[tactic(auto, using(crate::specs::FormatLaws::too_long), unfolding(crate::specs::Offsets::told))]
 pub fn layout_of(bytes: &[u8]) -> Layout
     ensures bytes_value { parse bytes.now ≡ told result bytes.now }
     ensures laid { Laid (length bytes.now) result }

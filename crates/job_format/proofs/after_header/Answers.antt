@@ -7,24 +7,15 @@ use Rattle.job_format.proofs.after_header.Goals as goal
 
 pub returns-then-not-header : goal.returns-then-not-header
 returns-then-not-header c =
-    let i = c in
-    let st = i in
     let r = c.after_surface.ensures in
-    record { bytes_value = windowless st.args.bytes.now st.requires.0 st.args.header st.requires.3 (not-true _ i.if-not-header.true) ∙ r.bytes_value; laid = r.laid }
+    record { bytes_value = windowless c.args.bytes.now c.requires.0 c.args.header c.requires.3 (not-true _ c.if-not-header.true) ∙ r.bytes_value; laid = r.laid }
 
 pub returns-then-bytes-at : goal.returns-then-bytes-at
 unfolding told
 returns-then-bytes-at c =
-    let n = c in
-    let i = n in
-    let st = i in
-    record { bytes_value = window-cut st.args.bytes.now st.requires.0 st.args.header st.requires.3 n.surface_end-at.result n.surface_end-at.ensures.0 (not-false _ i.if-not-header.false) c.if-bytes-at.true; laid = tt }
+    record { bytes_value = window-cut c.args.bytes.now c.requires.0 c.args.header c.requires.3 c.surface_end-at.result c.surface_end-at.ensures.0 (not-false _ c.if-not-header.false) c.if-bytes-at.true; laid = tt }
 
 pub returns : goal.returns
 returns c =
-    let w = c in
-    let n = w in
-    let i = n in
-    let st = i in
     let r = c.after_surface-2.ensures in
-    record { bytes_value = windowed-by st.args.bytes.now st.requires.0 st.args.header st.requires.3 n.surface_end-at.result n.surface_end-at.ensures.0 (not-false _ i.if-not-header.false) w.window_at-window.result w.window_at-window.ensures ∙ r.bytes_value; laid = r.laid }
+    record { bytes_value = windowed-by c.args.bytes.now c.requires.0 c.args.header c.requires.3 c.surface_end-at.result c.surface_end-at.ensures.0 (not-false _ c.if-not-header.false) c.window_at-window.result c.window_at-window.ensures ∙ r.bytes_value; laid = r.laid }
