@@ -1,8 +1,6 @@
 -- A branch for each part of the definition: the degree, the counts, the knots one by one, the domain.
 use mathlib.Core.Path.{sym, ◌∙◌}
 use native.Mathlib.Omega.{arith}
-use borrow.Author.Tests.{not-true, not-false}
-use borrow.Author.Rules.{rules}
 use Rattle.spline.specs.KnotLaws.{counts-hold}
 use Rattle.spline.proofs.KnotSteps.{no-degree, counts-refused, knots-refused, domain-refused, all_fit}
 use Rattle.spline.proofs.knots.check_knots.Goals as goal
