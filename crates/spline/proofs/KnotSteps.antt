@@ -67,9 +67,9 @@ module _ (p n : ℕ) (ks : List Float) where
   unfolding refusal_of_knots
   no-degree h = simp (eq-eqb p 0 h)
 
-  pub degree-above : 16 < p → 5 ≡ refusal_of_knots (axis p n ks)
+  pub degree_above : 16 < p → 5 ≡ refusal_of_knots (axis p n ks)
   unfolding refusal_of_knots
-  degree-above h = simp (lt-ltb 16 p h, or-true)
+  degree_above h = simp (lt-ltb 16 p h, or-true)
 
   module _ (z : p ≡ 0 → ⊥) (l : p ≤ 16) where
     answered : (t : Bool) → (counts_fit p n (length ks) && knots_fit (p + 1) ks && domain_fits (axis p n ks)) ≡ t → cond t 0 6 ≡ refusal_of_knots (axis p n ks)

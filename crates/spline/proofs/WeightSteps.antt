@@ -8,7 +8,6 @@ use native.Mathlib.Omega.{arith}
 use lib.ListN.{length, drop, get_or, drop_of_length-le}
 use lib.Seq.{drop-cons}
 use lib.Ieee.{Float, nan, inf, lt, eq, is_nan}
-use borrow.Author.Tests.{not-false}
 use Rattle.float64.specs.Operators.{◌⊘◌, 0·}
 use Rattle.float64.specs.Functions.{is_finite, larger, lesser, max}
 use Rattle.float64.specs.Order.{max-larger, lt_trans, lt_irrefl, lt_not_le, le_not_lt, le_trans}

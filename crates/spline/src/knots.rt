@@ -12,6 +12,7 @@ const MAX_CONTROLS: usize = 100_000;
 const MAX_KNOTS: usize = 100_034;
 
 // The number of the refusal, 0 for none.
+#[tactic(auto, using(crate::proofs::KnotSteps::degree_above))]
 pub fn check_knots(knots: &[f64], degree: usize, controls: usize) -> u64
     ensures { result ≡ refusal_of_knots (axis degree controls knots.now) }
 {

@@ -2,7 +2,6 @@
 use native.Mathlib.Omega.{arith}
 use Rattle.spline.specs.KnotLaws.{accepted}
 use Rattle.basis.specs.BasisLaws.{bounds}
-use borrow.Author.Rules.{rules}
 use Rattle.basis.proofs.first_at.Goals as goal
 
 pub overflow_sub-result : goal.overflow_sub-result

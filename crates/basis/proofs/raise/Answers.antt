@@ -1,14 +1,11 @@
 -- Each turn writes a column of the next degree, and carries the terms of the column after it.
-use mathlib.Core.Path.{◌≡◌, sym, ◌∙◌}
-use Prim.Native.Nat.{◌+◌, ◌-◌, ◌^◌, ◌≤◌}
+use mathlib.Core.Path.{sym, ◌∙◌}
+use Prim.Native.Nat.{◌+◌, ◌^◌}
 use native.Mathlib.Omega.{arith}
 use lib.Dec.{le→leb}
 use lib.Ieee.{in_float, of_int}
-use borrow.Author.Tests.{not-true, not-false}
 use Rattle.float64.specs.Operators.{of_nat}
-use Rattle.basis.specs.Rows.{Columns}
-use Rattle.basis.proofs.Rows.{mid, terms, begin, go, carried, stop, over}
-use borrow.Author.Rules.{rules}
+use Rattle.basis.proofs.Rows.{begin, go, carried, stop, over}
 use Rattle.basis.proofs.raise.Goals as goal
 
 pub int_to_float-n : goal.int_to_float-n

@@ -1,14 +1,8 @@
 -- Each turn writes a column of the next degree, and carries the terms of the column after it.
-use mathlib.Core.Path.{◌≡◌, sym, ◌∙◌}
-use Prim.Native.Nat.{◌+◌, ◌-◌, ◌^◌, ◌≤◌}
-use native.Mathlib.Omega.{arith}
-use lib.Dec.{le→leb}
-use lib.Ieee.{in_float, of_int}
-use borrow.Author.Tests.{not-true, not-false}
-use Rattle.float64.specs.Operators.{of_nat}
+use mathlib.Core.Path.{◌≡◌}
+use Prim.Native.Nat.{◌+◌, ◌-◌, ◌≤◌}
 use Rattle.basis.specs.Rows.{Columns}
-use Rattle.basis.proofs.Rows.{mid, terms, begin, go, carried, stop, over}
-use borrow.Author.Rules.{rules}
+use Rattle.basis.proofs.Rows.{mid, terms}
 use Rattle.basis.proofs.raise.Given as goal
 
 abbrev pub invariant-loop-j : goal.invariant-loop-j

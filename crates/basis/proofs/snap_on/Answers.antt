@@ -1,7 +1,6 @@
 -- The ends of the domain are knots.
 use native.Mathlib.Omega.{arith}
 use Rattle.spline.specs.KnotLaws.{accepted}
-use borrow.Author.Rules.{rules}
 use Rattle.basis.proofs.snap_on.Goals as goal
 
 pub offset_bounds-knots-degree : goal.offset_bounds-knots-degree

@@ -1,5 +1,4 @@
 -- The three tests are those of the callee.
-use borrow.Author.Rules.{rules}
 use Rattle.basis.proofs.sound.Goals as goal
 
 pub returns : goal.returns

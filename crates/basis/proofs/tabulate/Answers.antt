@@ -4,7 +4,6 @@ use native.Mathlib.Omega.{arith}
 use Rattle.spline.specs.KnotLaws.{accepted}
 use Rattle.basis.specs.Basis.{shown}
 use Rattle.basis.proofs.Gathered.{shows, nowhere, sampled}
-use borrow.Author.Rules.{rules}
 use Rattle.basis.proofs.tabulate.Goals as goal
 
 pub snap_on-requires : goal.snap_on-requires

@@ -5,7 +5,6 @@ use mathlib.Core.List.{List}
 use Prim.Native.Nat.{ℕ, ◌+◌}
 use lib.ListN.{get_or}
 use lib.Ieee.{Float, nan, eq}
-use borrow.Author.Rules.{rules}
 use Rattle.float64.specs.Operators.{◌⊖◌, ◌⊗◌, ◌⊘◌, 0·}
 use Rattle.basis.specs.Rows.{absent, term_at}
 use Rattle.basis.proofs.term_at.Goals as goal

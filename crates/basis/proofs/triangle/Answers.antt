@@ -1,12 +1,8 @@
 -- Each turn raises the rows by a degree; a column that is none stays so to the last.
 use mathlib.Core.Path.{ap}
 use mathlib.Core.Bool.{not}
-use Prim.Native.Nat.{◌-◌, ◌≤◌}
 use native.Mathlib.Omega.{arith}
-use Rattle.basis.specs.Rows.{Columns}
-use Rattle.basis.proofs.Rows.{E}
 use Rattle.basis.proofs.Gathered.{begin, go, stop, over}
-use borrow.Author.Rules.{rules}
 use Rattle.basis.proofs.triangle.Goals as goal
 
 pub loop-d-init : goal.loop-d-init

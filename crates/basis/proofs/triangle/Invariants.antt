@@ -1,10 +1,7 @@
 -- Each turn raises the rows by a degree; a column that is none stays so to the last.
 use Prim.Native.Nat.{◌-◌, ◌≤◌}
-use native.Mathlib.Omega.{arith}
 use Rattle.basis.specs.Rows.{Columns}
 use Rattle.basis.proofs.Rows.{E}
-use Rattle.basis.proofs.Gathered.{begin, go, stop, over}
-use borrow.Author.Rules.{rules}
 use Rattle.basis.proofs.triangle.Given as goal
 
 abbrev pub invariant-loop-d : goal.invariant-loop-d

@@ -1,6 +1,5 @@
 -- What `norm` says of what `sub` says.
 use mathlib.Core.Path.{ap, ◌∙◌}
-use borrow.Author.Rules.{rules}
 use Rattle.vector3.specs.Vector3.{norm, distance}
 use Rattle.vector3.proofs.distance.Goals as goal
 

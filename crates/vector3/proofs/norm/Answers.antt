@@ -1,6 +1,5 @@
 -- What `root` says of what `dot` says.
 use mathlib.Core.Path.{ap, ◌∙◌}
-use borrow.Author.Rules.{rules}
 use Rattle.float64.specs.Functions.{root}
 use Rattle.vector3.specs.Vector3.{norm}
 use Rattle.vector3.proofs.norm.Goals as goal

@@ -1,15 +1,11 @@
 -- Each turn writes a value and a first derivative of the last degree, and carries the terms of the column after it.
-use Prim.Native.Nat.{ℕ, ◌-◌, ◌^◌, ◌≤◌}
+use Prim.Native.Nat.{◌^◌}
 use native.Mathlib.Omega.{arith}
 use lib.Dec.{le→leb}
-use lib.ListN.{get_or}
-use lib.Ieee.{nan, in_float, of_int}
+use lib.Ieee.{in_float, of_int}
 use Rattle.float64.specs.Operators.{of_nat}
-use Rattle.basis.specs.Parts.{Row}
-use Rattle.basis.proofs.Rows.{till}
-use Rattle.basis.proofs.Zeros.{Stands, itself}
-use Rattle.basis.proofs.Parts.{value, slope, term, begin, firsts-begin, skip_first, go, firsts-go, carried, last, firsts-last}
-use borrow.Author.Rules.{rules}
+use Rattle.basis.proofs.Zeros.{itself}
+use Rattle.basis.proofs.Parts.{begin, firsts-begin, skip_first, go, firsts-go, carried, last, firsts-last}
 use Rattle.basis.proofs.values.raise_both.Goals as goal
 
 pub int_to_float-n : goal.int_to_float-n

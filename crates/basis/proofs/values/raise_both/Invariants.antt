@@ -1,15 +1,11 @@
 -- Each turn writes a value and a first derivative of the last degree, and carries the terms of the column after it.
-use Prim.Native.Nat.{ℕ, ◌-◌, ◌^◌, ◌≤◌}
-use native.Mathlib.Omega.{arith}
-use lib.Dec.{le→leb}
+use Prim.Native.Nat.{ℕ, ◌-◌, ◌≤◌}
 use lib.ListN.{get_or}
-use lib.Ieee.{nan, in_float, of_int}
-use Rattle.float64.specs.Operators.{of_nat}
+use lib.Ieee.{nan}
 use Rattle.basis.specs.Parts.{Row}
 use Rattle.basis.proofs.Rows.{till}
-use Rattle.basis.proofs.Zeros.{Stands, itself}
-use Rattle.basis.proofs.Parts.{value, slope, term, begin, firsts-begin, skip_first, go, firsts-go, carried, last, firsts-last}
-use borrow.Author.Rules.{rules}
+use Rattle.basis.proofs.Zeros.{Stands}
+use Rattle.basis.proofs.Parts.{value, slope, term}
 use Rattle.basis.proofs.values.raise_both.Given as goal
 
 abbrev pub invariant-loop-j : goal.invariant-loop-j

@@ -1,15 +1,12 @@
 -- Each turn writes a value of the next degree, and carries the terms of the column after it.
-use Prim.Native.Nat.{◌+◌, ◌-◌, ◌^◌, ◌≤◌}
+use Prim.Native.Nat.{◌+◌, ◌^◌}
 use native.Mathlib.Numerals.{add-one}
 use native.Mathlib.Omega.{arith}
 use lib.Dec.{le→leb}
 use lib.Ieee.{in_float, of_int}
 use Rattle.float64.specs.Operators.{of_nat}
-use Rattle.basis.specs.Parts.{Row}
-use Rattle.basis.proofs.Rows.{till}
-use Rattle.basis.proofs.Zeros.{Stands, itself}
-use Rattle.basis.proofs.Parts.{value, term, begin, skip_first, go, carried, last}
-use borrow.Author.Rules.{rules}
+use Rattle.basis.proofs.Zeros.{itself}
+use Rattle.basis.proofs.Parts.{begin, skip_first, go, carried, last}
 use Rattle.basis.proofs.values.raise_values.Goals as goal
 
 pub int_to_float-n : goal.int_to_float-n

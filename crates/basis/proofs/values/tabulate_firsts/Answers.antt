@@ -5,7 +5,6 @@ use Rattle.spline.specs.KnotLaws.{accepted}
 use Rattle.basis.specs.Parts.{value_of, value_in, first_of, first_in, part_of, shown_part}
 use Rattle.basis.proofs.Gathered.{nowhere}
 use Rattle.basis.proofs.Parts.{spanned, shows}
-use borrow.Author.Rules.{rules}
 use Rattle.basis.proofs.values.tabulate_firsts.Goals as goal
 
 pub snap_on-requires : goal.snap_on-requires

@@ -1,10 +1,7 @@
 -- Each turn raises the values by a degree.
-use mathlib.Core.Path.{◌≡◌}
 use Prim.Native.Nat.{◌-◌, ◌≤◌}
-use native.Mathlib.Omega.{arith}
 use Rattle.basis.specs.Parts.{Row}
-use Rattle.basis.proofs.Parts.{value, begin-row}
-use borrow.Author.Rules.{rules}
+use Rattle.basis.proofs.Parts.{value}
 use Rattle.basis.proofs.values.triangle_of_values.Given as goal
 
 abbrev pub invariant-loop-d : goal.invariant-loop-d

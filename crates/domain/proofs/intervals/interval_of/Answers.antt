@@ -1,6 +1,5 @@
 -- An accepted axis has both knots.
 use native.Mathlib.Omega.{arith}
-use borrow.Author.Rules.{rules}
 use Rattle.spline.specs.Knots.{axis}
 use Rattle.spline.specs.KnotLaws.{Accepted, accepted}
 use Rattle.domain.proofs.intervals.interval_of.Goals as goal

@@ -1,9 +1,7 @@
 -- Each return is a law of `wrapped`.
-use mathlib.Core.Path.{◌≡◌, sym, ap, ◌∙◌}
-use mathlib.Core.Bool.{false, not, ◌&&◌}
-use mathlib.Core.Logic.{⊎_elim}
+use mathlib.Core.Path.{◌≡◌, sym, ◌∙◌}
+use mathlib.Core.Bool.{false, ◌&&◌}
 use lib.Ieee.{le}
-use borrow.Author.Rules.{rules}
 use borrow.Author.Tests.{not-true, not-false}
 use Rattle.domain.specs.WrapLaws.{wrap-flagless, wrap-not-finite, wrap-inside, wrap-outside}
 use Rattle.domain.proofs.intervals.wrap.Goals as goal

@@ -1,5 +1,4 @@
 -- The two tests that are calls, put in their places.
-use borrow.Author.Rules.{rules}
 use Rattle.domain.specs.Windows.{misfits_on}
 use Rattle.domain.proofs.windows.misfits_on.Goals as goal
 

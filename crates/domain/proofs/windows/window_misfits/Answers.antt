@@ -1,5 +1,4 @@
 -- No window, or an axis after the other.
-use borrow.Author.Rules.{rules}
 use Rattle.domain.specs.Windows.{misfits}
 use Rattle.domain.proofs.windows.window_misfits.Goals as goal
 

@@ -1,7 +1,6 @@
 -- The whole domain, or an axis after the other.
 use mathlib.Core.Path.{◌∙◌}
 use denote.Floats.{passes}
-use borrow.Author.Rules.{rules}
 use Rattle.domain.specs.Windows.{window_in}
 use Rattle.domain.proofs.windows.window_of.Goals as goal
 

@@ -1,23 +1,18 @@
 -- A branch for each part of the definition: the degree, the counts, the knots one by one, the domain.
 use mathlib.Core.Path.{sym, ◌∙◌}
 use native.Mathlib.Omega.{arith}
-use borrow.Author.Tests.{not-true, not-false}
-use borrow.Author.Rules.{rules}
 use Rattle.spline.specs.KnotLaws.{counts-hold}
-use Rattle.spline.proofs.KnotSteps.{no-degree, degree-above, counts-refused, knots-refused, domain-refused, all_fit}
+use Rattle.spline.proofs.KnotSteps.{no-degree, counts-refused, knots-refused, domain-refused, all_fit}
 use Rattle.spline.proofs.knots.check_knots.Goals as goal
 
 pub returns-then-degree-eq0 : goal.returns-then-degree-eq0
 returns-then-degree-eq0 c = no-degree _ _ _ c.if-degree-eq0.true
 
-pub returns-then-degree-gt-MAX_DEGREE : goal.returns-then-degree-gt-MAX_DEGREE
-returns-then-degree-gt-MAX_DEGREE c = degree-above _ _ _ c.if-degree-gt-MAX_DEGREE.true
-
 pub returns-then-not-counts_fit : goal.returns-then-not-counts_fit
-returns-then-not-counts_fit c = counts-refused _ _ _ c.if-degree-eq0.false c.if-degree-gt-MAX_DEGREE.false (sym c.counts_fit.ensures ∙ c.if-not-counts_fit.true)
+returns-then-not-counts_fit c = counts-refused _ _ _ c.if-degree-eq0.false (omega arith) (sym c.counts_fit.ensures ∙ c.if-not-counts_fit.true)
 
 pub returns-then-not-knots_fit : goal.returns-then-not-knots_fit
-returns-then-not-knots_fit c = knots-refused _ _ _ c.if-degree-eq0.false c.if-degree-gt-MAX_DEGREE.false (sym c.knots_fit.ensures ∙ c.if-not-knots_fit.true)
+returns-then-not-knots_fit c = knots-refused _ _ _ c.if-degree-eq0.false (omega arith) (sym c.knots_fit.ensures ∙ c.if-not-knots_fit.true)
 
 pub domain_fits-requires : goal.domain_fits-requires
 domain_fits-requires c =
@@ -25,11 +20,11 @@ domain_fits-requires c =
     (h.1, omega arith)
 
 pub returns-then-not-domain_fits : goal.returns-then-not-domain_fits
-returns-then-not-domain_fits c = domain-refused _ _ _ c.if-degree-eq0.false c.if-degree-gt-MAX_DEGREE.false (sym c.domain_fits.ensures ∙ c.if-not-domain_fits.true)
+returns-then-not-domain_fits c = domain-refused _ _ _ c.if-degree-eq0.false (omega arith) (sym c.domain_fits.ensures ∙ c.if-not-domain_fits.true)
 
 pub returns : goal.returns
 returns c =
-    all_fit _ _ _ c.if-degree-eq0.false c.if-degree-gt-MAX_DEGREE.false
+    all_fit _ _ _ c.if-degree-eq0.false (omega arith)
     (sym c.counts_fit.ensures ∙ c.if-not-counts_fit.false)
     (sym c.knots_fit.ensures ∙ c.if-not-knots_fit.false)
     (sym c.domain_fits.ensures ∙ c.if-not-domain_fits.false)

@@ -1,6 +1,5 @@
 -- The definition's own tests, one by one.
 use native.Mathlib.Omega.{arith}
-use borrow.Author.Rules.{rules}
 use Rattle.spline.proofs.KnotSteps.{controls-above, count-above, controls-few, in-limits}
 use Rattle.spline.proofs.knots.counts_fit.Goals as goal
 

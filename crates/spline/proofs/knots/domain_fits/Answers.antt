@@ -1,5 +1,4 @@
 -- The definition's own two tests.
-use borrow.Author.Rules.{rules}
 use Rattle.spline.proofs.KnotSteps.{no-width, some-width}
 use Rattle.spline.proofs.knots.domain_fits.Goals as goal
 

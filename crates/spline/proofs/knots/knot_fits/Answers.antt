@@ -1,8 +1,6 @@
 -- A branch for each of the three tests of a knot, and for the ends, past which there is nothing to compare with.
 use mathlib.Core.Path.{sym, ◌∙◌}
 use native.Mathlib.Omega.{arith}
-use borrow.Author.Tests.{not-true, not-false}
-use borrow.Author.Rules.{rules}
 use Rattle.spline.proofs.KnotSteps.{not_finite, last, descends, later, none-later}
 use Rattle.spline.proofs.knots.knot_fits.Goals as goal
 

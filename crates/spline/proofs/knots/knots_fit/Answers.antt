@@ -1,12 +1,8 @@
 -- The loop's invariant: all knots pass where those from i on do.
-use Prim.Native.Nat.{◌≤◌, ◌-◌}
-use mathlib.Core.Path.{◌≡◌, sym, ◌∙◌}
+use mathlib.Core.Path.{sym, ◌∙◌}
 use native.Mathlib.Omega.{arith}
-use lib.ListN.{length, drop}
-use borrow.Author.Tests.{not-true, not-false}
-use borrow.Author.Rules.{rules}
 use Rattle.spline.specs.Each.{stops, goes, walked}
-use Rattle.spline.specs.KnotLaws.{knots_fit, knots-each}
+use Rattle.spline.specs.KnotLaws.{knots-each}
 use Rattle.spline.proofs.knots.knots_fit.Goals as goal
 
 pub returns-then-not-knot_fits : goal.returns-then-not-knot_fits

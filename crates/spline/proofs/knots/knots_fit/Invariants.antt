@@ -1,12 +1,8 @@
 -- The loop's invariant: all knots pass where those from i on do.
 use Prim.Native.Nat.{◌≤◌, ◌-◌}
-use mathlib.Core.Path.{◌≡◌, sym, ◌∙◌}
-use native.Mathlib.Omega.{arith}
+use mathlib.Core.Path.{◌≡◌}
 use lib.ListN.{length, drop}
-use borrow.Author.Tests.{not-true, not-false}
-use borrow.Author.Rules.{rules}
-use Rattle.spline.specs.Each.{stops, goes, walked}
-use Rattle.spline.specs.KnotLaws.{knots_fit, knots-each}
+use Rattle.spline.specs.KnotLaws.{knots_fit}
 use Rattle.spline.proofs.knots.knots_fit.Given as goal
 
 abbrev pub invariant-loop-i : goal.invariant-loop-i

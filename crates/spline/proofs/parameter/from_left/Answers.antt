@@ -1,6 +1,5 @@
 -- The definition's cases. At the upper end it is true on either side.
 use mathlib.Core.Path.{sym}
-use borrow.Author.Rules.{rules}
 use Rattle.spline.specs.ParameterLaws.{from-left-high}
 use Rattle.spline.specs.Knots.{from_left}
 use Rattle.spline.proofs.parameter.from_left.Goals as goal

@@ -1,5 +1,4 @@
 -- The definition's own numbers, with what `abs` and `max` ensure.
-use borrow.Author.Rules.{rules}
 use Rattle.spline.specs.Knots.{near}
 use Rattle.spline.proofs.parameter.near.Goals as goal
 

@@ -1,9 +1,7 @@
 -- The loop's invariant: the rank between `lo` and `hi` is that between `first` and `last`. The knot in the middle says on which side of it the rank lies.
-use mathlib.Core.Path.{◌≡◌, sym, ◌∙◌}
-use Prim.Native.Nat.{ℕ, ◌+◌, ◌-◌, ◌/◌, ◌≤◌}
-use native.Mathlib.Omega.{arith}
-use borrow.Author.Rules.{rules}
-use Rattle.spline.specs.ParameterLaws.{rank, rank_up, rank_down}
+use mathlib.Core.Path.{◌≡◌}
+use Prim.Native.Nat.{◌-◌, ◌≤◌}
+use Rattle.spline.specs.ParameterLaws.{rank}
 use Rattle.spline.proofs.parameter.partition_point.Given as goal
 
 abbrev pub invariant-loop-lo : goal.invariant-loop-lo

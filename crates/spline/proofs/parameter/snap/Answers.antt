@@ -1,5 +1,4 @@
 -- The definition's own tests, in its order.
-use borrow.Author.Rules.{rules}
 use Rattle.spline.specs.Knots.{snapped}
 use Rattle.spline.proofs.parameter.snap.Goals as goal
 

@@ -1,11 +1,8 @@
 -- The loop's invariant: what was found of the weights before 2 * i, of which each turn takes two.
-use Prim.Native.Nat.{◌*◌, ◌/◌, ◌-◌, ◌≤◌}
-use mathlib.Core.Path.{◌≡◌, refl}
+use mathlib.Core.Path.{refl}
 use native.Mathlib.Omega.{arith}
-use lib.ListN.{length, drop}
 use lib.Ieee.{div, of_bits}
-use Rattle.spline.proofs.WeightSteps.{Passed, begin, turn, even-end, odd-end}
-use borrow.Author.Rules.{rules}
+use Rattle.spline.proofs.WeightSteps.{begin, turn, even-end, odd-end}
 use Rattle.spline.proofs.weights.extremes_of.Goals as goal
 
 pub loop-i-init : goal.loop-i-init

@@ -1,5 +1,4 @@
 -- The definition's own tests, by what one pass tells of the weights.
-use borrow.Author.Rules.{rules}
 use Rattle.spline.proofs.WeightSteps.{none-refused, unsound-refused, vanishing-refused, scaled}
 use Rattle.spline.proofs.weights.validate_weights.Goals as goal
 

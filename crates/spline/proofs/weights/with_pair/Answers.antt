@@ -1,6 +1,5 @@
 use mathlib.Core.Path.{refl, ap, ◌∙◌}
 use Rattle.float64.specs.Functions.{larger, lesser}
-use borrow.Author.Rules.{rules}
 use Rattle.spline.proofs.weights.with_pair.Goals as goal
 
 pub returns : goal.returns
