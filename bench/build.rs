@@ -1,4 +1,4 @@
-//! Links the port, which `rt staticlib timing` writes to target/staticlib of the repository, and
+//! Links the port, which `tools/archive timing` writes to target/staticlib of the repository, and
 //! SISL where it is installed.
 use std::env;
 use std::fs;
@@ -11,7 +11,7 @@ fn main() {
     let archive = folder.join("libtiming.a");
     assert!(
         archive.exists(),
-        "the port is not built: run `rt staticlib timing` in the repository's root first"
+        "the port is not built: run `tools/archive timing` first"
     );
     println!("cargo:rerun-if-changed={}", archive.display());
     println!("cargo:rustc-link-search=native={}", folder.display());

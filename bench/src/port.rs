@@ -1,4 +1,4 @@
-//! The port's functions, as crate `timing` exports them. Nothing ties these declarations to
+//! The port's functions, as crate `timing_c` exports them. Nothing ties these declarations to
 //! the Rattle source but this file: a slice goes as a pointer and a length.
 unsafe extern "C" {
     fn time_root(x: f64) -> f64;

@@ -28,7 +28,7 @@ pub struct Lent<'a> {
 }
 
 // A slice goes as a pointer and a count. Nothing but this file ties the declarations to the
-// library, which crates/placing/src/lib.rt declares in the same order.
+// library, which crates/placing_c/src/lib.rt declares in the same order.
 unsafe extern "C" {
     fn placing_evaluate(
         degree_u: usize,
