@@ -3,9 +3,4 @@ pub mod Visits
 pub mod Compute
 pub mod Nearest
 pub mod GridLaws
-pub mod PriceLaws
-pub mod InversionLaws
-pub mod OriginLaws
-pub mod VisitLaws
-pub mod SurfaceLaws
 pub mod Examples

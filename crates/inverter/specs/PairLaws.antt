@@ -25,11 +25,11 @@ use Rattle.inversion.specs.declared.Hint.TheVariants.{Nothing, At}
 use Rattle.inversion.specs.declared.Choice.{Choice}
 use Rattle.inversion.specs.Inversion.{of_hint, within, inversion_by}
 use Rattle.inversion.specs.Nearest.{First}
-use Rattle.inversion.specs.InversionLaws.{far, candidates, taken, among, hint-taken, pair_held}
+use Rattle.inversion.proofs.InversionLaws.{far, candidates, taken, among, hint-taken, pair_held}
 use Rattle.inversion.specs.GridLaws.{starts-six}
-use Rattle.inversion.specs.OriginLaws.{origin-most}
-use Rattle.inversion.specs.SurfaceLaws as Surfaces
-use Rattle.inversion.specs.SurfaceLaws.{InWindow, InDomain, Paired, Chosen, NoNearer, From, within-domain, whole-grid, first-six, nearest-end, grid-no-nearer, paired}
+use Rattle.inversion.proofs.OriginLaws.{origin-most}
+use Rattle.inversion.proofs.SurfaceLaws as Surfaces
+use Rattle.inversion.proofs.SurfaceLaws.{InWindow, InDomain, Paired, Chosen, NoNearer, From, within-domain, whole-grid, first-six, nearest-end, grid-no-nearer, paired}
 use Rattle.chart.specs.declared.Period.{Period}
 use Rattle.chart.specs.declared.Terms.{Terms}
 use Rattle.chart.specs.declared.Placing.TheVariants.{Pair}

@@ -22,7 +22,7 @@ use Rattle.price.specs.EvaluationLaws.{Evaluates}
 use Rattle.inversion.specs.declared.Choice.{Choice}
 use Rattle.inversion.specs.Inversion.{inversion_by, answer_of}
 use Rattle.inversion.specs.Visits.{evaluations_by}
-use Rattle.inversion.specs.SurfaceLaws.{price-bounds, price-is-count}
+use Rattle.inversion.proofs.SurfaceLaws.{price-bounds, price-is-count}
 use Rattle.chart.specs.declared.Terms.{Terms}
 use Rattle.chart.specs.declared.Placing.{Placing}
 use Rattle.chart.specs.declared.Placing.TheVariants.{Pair, Refusal}

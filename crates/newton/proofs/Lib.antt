@@ -1,1 +1,3 @@
 pub mod RoundSteps
+pub mod VisitLaws
+pub mod RootLaws

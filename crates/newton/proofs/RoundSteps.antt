@@ -29,7 +29,7 @@ use Rattle.newton.specs.declared.Turn.TheVariants.{Over, Onto}
 use Rattle.newton.specs.Run.{plan, judge, Round, over, onto, follow, finish, measured, held, next, settle, weigh, pursue, round, rounds, outcome_of, turn_of}
 use Rattle.newton.specs.RunLaws.{rounds-count}
 use Rattle.newton.specs.OutcomeLaws.{ended-told, refused-told, short-told}
-use Rattle.newton.specs.RootLaws.{onto-rooted}
+use Rattle.newton.proofs.RootLaws.{onto-rooted}
 
 -- ---- a round
 

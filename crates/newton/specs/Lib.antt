@@ -2,7 +2,5 @@ pub mod Run
 pub mod Visits
 pub mod Compute
 pub mod RunLaws
-pub mod VisitLaws
 pub mod EndLaws
 pub mod OutcomeLaws
-pub mod RootLaws

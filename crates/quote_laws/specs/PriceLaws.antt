@@ -17,8 +17,8 @@ use Rattle.surface.specs.Surface.{Surface, axis_u, axis_v, domain_of, scale_of, 
 use Rattle.inversion.specs.declared.Hint.{Hint}
 use Rattle.inversion.specs.declared.Hint.TheVariants.{Nothing, At}
 use Rattle.inversion.specs.declared.Choice.{Choice}
-use Rattle.inversion.specs.PriceLaws.{runs_for}
-use Rattle.inversion.specs.SurfaceLaws.{price-by-grid}
+use Rattle.inversion.proofs.PriceLaws.{runs_for}
+use Rattle.inversion.proofs.SurfaceLaws.{price-by-grid}
 use Rattle.chart.specs.declared.Terms.{Terms}
 use Rattle.chart.specs.declared.Placing.{Placing}
 use Rattle.chart.specs.declared.Placing.TheVariants.{Pair, Refusal}

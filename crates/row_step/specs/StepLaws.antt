@@ -16,8 +16,8 @@ use Rattle.newton.specs.RunLaws.{Reached}
 use Rattle.inversion.specs.declared.Hint.{Hint}
 use Rattle.inversion.specs.declared.Hint.TheVariants.{Nothing, At}
 use Rattle.inversion.specs.Inversion.{within, inversion_by}
-use Rattle.inversion.specs.InversionLaws.{pair_held}
-use Rattle.inversion.specs.SurfaceLaws.{pair-number}
+use Rattle.inversion.proofs.InversionLaws.{pair_held}
+use Rattle.inversion.proofs.SurfaceLaws.{pair-number}
 use Rattle.chart.specs.declared.Period.TheVariants.{Free}
 use Rattle.chart.specs.declared.Terms.{Terms}
 use Rattle.chart.specs.declared.Placing.{Placing}

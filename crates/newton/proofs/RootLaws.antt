@@ -13,7 +13,7 @@ use Rattle.newton.specs.Run.{onto, round, finished, outcome_of}
 use Rattle.newton.specs.RunLaws.{halts, refuses, returns, lands, goes, Carries, by-round, by-run}
 use Rattle.newton.specs.OutcomeLaws.{ended-back}
 use Rattle.newton.specs.Visits.{visits}
-use Rattle.newton.specs.VisitLaws.{finished-evaluates}
+use Rattle.newton.proofs.VisitLaws.{finished-evaluates}
 
 module _ (d : Domain) (mark : Vector3) (eval : Float → Float → Evaluated) where
   -- with k rounds to go after n evaluations

@@ -24,7 +24,7 @@ use Rattle.inversion.specs.declared.Choice.{Choice}
 use Rattle.inversion.specs.declared.Best.{Best}
 use Rattle.inversion.specs.Inversion.{of_hint, numbered, led, plain_steps}
 use Rattle.inversion.specs.Nearest.{All, Nearest, here, there, nearest-member}
-use Rattle.inversion.specs.InversionLaws.{far, Ran, none, next, Leads, nothing, from, Paired, taken, among, plain_steps-paired, nearest-end}
+use Rattle.inversion.proofs.InversionLaws.{far, Ran, none, next, Leads, nothing, from, Paired, taken, among, plain_steps-paired, nearest-end}
 
 module _ (d : Domain) (mark : Vector3) (eval : Float → Float → Evaluated) where
   -- a run from (u, v) that has an end ends further away than c

@@ -14,7 +14,7 @@ use Rattle.domain.specs.declared.Domain.{Domain}
 use Rattle.newton.specs.declared.End.{End}
 use Rattle.newton.specs.Run.{run}
 use Rattle.newton.specs.Visits.{visits}
-use Rattle.newton.specs.VisitLaws.{run-evaluates}
+use Rattle.newton.proofs.VisitLaws.{run-evaluates}
 use Rattle.shortlist.specs.declared.Start.{Start}
 use Rattle.shortlist.specs.FirstSix.{starts_of}
 use Rattle.seeds.specs.Grid.{survey}
@@ -27,7 +27,7 @@ use Rattle.inversion.specs.declared.Best.{Best}
 use Rattle.inversion.specs.declared.Best.TheVariants.{Nothing, At}
 use Rattle.inversion.specs.Inversion.{of_hint, numbered, within, nearest_of, led, choose, runs, searched, explored, unless_close, hinted, plain_steps}
 use Rattle.inversion.specs.Visits.{is_close, visits_of, search, planned, evaluations}
-use Rattle.inversion.specs.InversionLaws.{ends_some}
+use Rattle.inversion.proofs.InversionLaws.{ends_some}
 
 module _ (d : Domain) (mark : Vector3) (eval : Float → Float → Evaluated) where
   run-until : (u v : Float) → Evaluates eval (run d mark eval u v) (until eval (visits d mark eval u v))

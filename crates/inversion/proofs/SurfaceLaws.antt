@@ -35,12 +35,12 @@ use Rattle.inversion.specs.declared.Choice.{Choice}
 use Rattle.inversion.specs.Inversion.{inversion_by}
 use Rattle.inversion.specs.Visits.{evaluations_by}
 use Rattle.inversion.specs.Nearest.{First}
-use Rattle.inversion.specs.PriceLaws as Prices
-use Rattle.inversion.specs.PriceLaws.{runs_for}
-use Rattle.inversion.specs.VisitLaws.{steps-evaluate}
-use Rattle.inversion.specs.OriginLaws as Origins
-use Rattle.inversion.specs.InversionLaws as Plain
-use Rattle.inversion.specs.InversionLaws.{EndsAt, far, candidates}
+use Rattle.inversion.proofs.PriceLaws as Prices
+use Rattle.inversion.proofs.PriceLaws.{runs_for}
+use Rattle.inversion.proofs.VisitLaws.{steps-evaluate}
+use Rattle.inversion.proofs.OriginLaws as Origins
+use Rattle.inversion.proofs.InversionLaws as Plain
+use Rattle.inversion.proofs.InversionLaws.{EndsAt, far, candidates}
 
 -- an axis without the flag holds the pair in the window
 abbrev pub InWindow : Bool → Interval → Float → Type 0
