@@ -1,0 +1,8 @@
+use Rattle.laid.proofs.Steps.{laid-text}
+use borrow.Author.Rules.{rules}
+use Rattle.laid.proofs.answers.lay_printout.Goals as goal
+
+pub returns : goal.returns
+returns c =
+    let pu = c in
+    laid-text _ pu.requires.1 pu.put.ensures
