@@ -3,5 +3,4 @@ pub mod Plane
 pub mod Preimage
 pub mod PlacingLaws
 pub mod PairLaws
-pub mod NumberLaws
 pub mod Compute
