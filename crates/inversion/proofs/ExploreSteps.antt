@@ -27,12 +27,10 @@ use Rattle.seeds.specs.Grid.{survey}
 use Rattle.shortlist.specs.Insert.{starts_in}
 use Rattle.seeds.specs.Walk.{walked_of}
 use Rattle.inversion.specs.declared.Hint.{Hint}
-use Rattle.inversion.specs.declared.Hint.TheVariants as Hint
 use Rattle.inversion.specs.declared.Choice.{Choice}
 use Rattle.inversion.specs.declared.Best.{Best}
 use Rattle.inversion.specs.declared.Best.TheVariants.{Nothing, At}
 use Rattle.inversion.specs.declared.Answer.{Answer}
-use Rattle.inversion.specs.declared.Answer.TheVariants as Answer
 use Rattle.inversion.specs.Inversion.{of_hint, within, searched, explored, explored_on, unless_close, hinted, plain_steps, inversion_by, answer_of}
 use Rattle.inversion.proofs.SearchSteps.{chosen-told, refusal-told, too-dear}
 

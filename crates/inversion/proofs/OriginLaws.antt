@@ -19,7 +19,6 @@ use Rattle.shortlist.specs.FirstSix.{starts_of}
 use Rattle.seeds.specs.Visits.{grid_of, points_of}
 use Rattle.seeds.specs.VisitLaws.{survey-grid}
 use Rattle.inversion.specs.declared.Hint.{Hint}
-use Rattle.inversion.specs.declared.Hint.TheVariants as Hint
 use Rattle.inversion.specs.declared.Choice.{Choice}
 use Rattle.inversion.specs.declared.Best.{Best}
 use Rattle.inversion.specs.Inversion.{of_hint, numbered, led, plain_steps}

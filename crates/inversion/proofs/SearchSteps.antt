@@ -26,7 +26,6 @@ use Rattle.inversion.specs.declared.Choice.{Choice}
 use Rattle.inversion.specs.declared.Best.{Best}
 use Rattle.inversion.specs.declared.Best.TheVariants.{Nothing, At}
 use Rattle.inversion.specs.declared.Answer.{Answer}
-use Rattle.inversion.specs.declared.Answer.TheVariants as Answer
 use Rattle.inversion.specs.Inversion.{numbered, nearer, nearest_of, led, choose, runs, searched, kept, answer_of}
 
 -- ---- what a budget makes of it

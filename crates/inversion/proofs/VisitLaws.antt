@@ -21,7 +21,6 @@ use Rattle.seeds.specs.Grid.{survey}
 use Rattle.seeds.specs.Visits.{grid_of, points_of}
 use Rattle.seeds.specs.VisitLaws.{survey-evaluates, survey-grid}
 use Rattle.inversion.specs.declared.Hint.{Hint}
-use Rattle.inversion.specs.declared.Hint.TheVariants as Hint
 use Rattle.inversion.specs.declared.Choice.{Choice}
 use Rattle.inversion.specs.declared.Best.{Best}
 use Rattle.inversion.specs.declared.Best.TheVariants.{Nothing, At}

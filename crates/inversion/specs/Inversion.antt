@@ -13,12 +13,10 @@ use Rattle.window.specs.Values.{values_u, values_v}
 use Rattle.shortlist.specs.FirstSix.{starts_of}
 use Rattle.seeds.specs.Grid.{survey}
 use Rattle.inversion.specs.declared.Hint.{Hint}
-use Rattle.inversion.specs.declared.Hint.TheVariants as Hint
 use Rattle.inversion.specs.declared.Choice.{Choice}
 use Rattle.inversion.specs.declared.Best.{Best}
 use Rattle.inversion.specs.declared.Best.TheVariants.{Nothing, At}
 use Rattle.inversion.specs.declared.Answer.{Answer}
-use Rattle.inversion.specs.declared.Answer.TheVariants as Answer
 
 -- ---- where a run came from: 0 for the hint, and for a start its place among the starts, from 1 on
 

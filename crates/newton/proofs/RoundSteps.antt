@@ -15,7 +15,6 @@ use Rattle.patch.specs.declared.Evaluated.TheVariants as Eval
 use Rattle.domain.specs.declared.Domain.{Domain}
 use Rattle.newton.specs.declared.Measured.{Measured}
 use Rattle.newton.specs.declared.Ending.{Ending}
-use Rattle.newton.specs.declared.Ending.TheVariants as Ending
 use Rattle.newton.specs.declared.Finished.{Finished}
 use Rattle.newton.specs.declared.Held.{Held}
 use Rattle.newton.specs.declared.Plan.{Plan}

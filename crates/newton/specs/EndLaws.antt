@@ -24,7 +24,6 @@ use Rattle.newton.specs.declared.Step.TheVariants.{Singular, By}
 use Rattle.newton.specs.declared.Plan.{Plan}
 use Rattle.newton.specs.declared.Plan.TheVariants.{Halt, Probe}
 use Rattle.newton.specs.declared.Verdict.{Verdict}
-use Rattle.newton.specs.declared.Verdict.TheVariants as Verdict
 use Rattle.newton.specs.Run.{step_of, clamp_into, inward, is_small_step, plan, judge, onto, finish, begun, next, round, finished, run, nudges_on, nudges_in, nudges_from, nudges, ending_number}
 use Rattle.newton.specs.RunLaws.{Reached, Planned, settled, stuck, steps, nudge, halts, refuses, returns, lands, goes, Carries, by-run, Clamped, planned-clamped, judge-told}
 use Rattle.newton.specs.Visits.{if_onward, visits_past, visits_on, visits_in, visits_from, visits}

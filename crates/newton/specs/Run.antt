@@ -15,7 +15,6 @@ use Rattle.domain.specs.declared.Domain.{Domain}
 use Rattle.newton.specs.declared.Measured.{Measured}
 use Rattle.newton.specs.declared.Iterate.{Iterate}
 use Rattle.newton.specs.declared.Ending.{Ending}
-use Rattle.newton.specs.declared.Ending.TheVariants as Ending
 use Rattle.newton.specs.declared.End.{End}
 use Rattle.newton.specs.declared.Finished.{Finished}
 use Rattle.newton.specs.declared.Held.{Held}

@@ -29,7 +29,6 @@ use Rattle.newton.specs.declared.Step.TheVariants.{Singular, By}
 use Rattle.newton.specs.declared.Plan.{Plan}
 use Rattle.newton.specs.declared.Plan.TheVariants.{Halt, Probe}
 use Rattle.newton.specs.declared.Verdict.{Verdict}
-use Rattle.newton.specs.declared.Verdict.TheVariants as Verdict
 use Rattle.newton.specs.Run.{step_of, clamp_into, inward, is_small_step, nudged, moved, plan_by, plan, judge, Round, over, onto, follow, finish, begun, next, settle, weigh, pursue, round, rounds, started, finished, run, nudges_on, nudges_in, nudges_from, nudges}
 
 -- what holds of a run's end, where it has one

@@ -1,5 +1,5 @@
 -- The checks of a quote one by one, and what is answered. Assumes nothing.
-use mathlib.Core.Path.{◌≡◌, refl, sym, ap, ◌∙◌}
+use mathlib.Core.Path.{◌≡◌, refl, sym}
 use mathlib.Core.Bool.{Bool, true, false}
 use Prim.Native.Nat.{ℕ, zero, suc, ◌+◌}
 use Rattle.surface.specs.Surface.{Surface, or_else, too_large, refusal_of_axes}

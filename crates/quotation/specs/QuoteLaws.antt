@@ -1,15 +1,14 @@
 -- The quote of a surface whose shape and knots pass: it is answered, and its grid is that of the two axes' counts of breaks. Assumes nothing.
-use Rattle.std.specs.Prelude.{◌≡◌, refl, Bool, true, false, ℕ, ◌+◌, ◌*◌, ◌≤◌, length, Float}
-use Rattle.std.proofs.Common.{ap, ◌∙◌, arith, le-ltb}
+use Rattle.std.specs.Prelude.{◌≡◌, Bool, false, ℕ, ◌+◌, ◌*◌, ◌≤◌, length, Float}
+use Rattle.std.proofs.Common.{le-ltb}
 use Rattle.std.proofs.Math.Nat.{mul-le-mul}
 use Rattle.spline.specs.Knots.{Axis, refusal_of_knots}
 use Rattle.domain.specs.declared.Domain.{Domain}
 use Rattle.grid.specs.Axis.{Within, inner_of, breaks_of, values_of}
 use Rattle.grid.specs.AxisLaws.{inner_within, breaks-length, values_for, values-most, values-of-count}
-use Rattle.window.specs.Values.{values_u, values_v}
 use Rattle.window.specs.SurfaceLaws.{window-in-domain}
 use Rattle.surface.specs.Surface.{Surface, axis_u, axis_v, window_of, or_else, too_large, refusal_of_surface, refusal_of_axes}
-use Rattle.surface.specs.SurfaceLaws.{accepted-axes, AcceptedSurface, accepted-surface}
+use Rattle.surface.specs.SurfaceLaws.{accepted-axes, accepted-surface}
 use Rattle.quotation.specs.declared.Quotation.TheVariants.{Quoted}
 use Rattle.quotation.specs.Quote.{refusal_of_quote, grid_size, margin, quoted_by, quoted}
 

@@ -19,7 +19,6 @@ use Rattle.surface.specs.declared.Checked.TheVariants as Check
 use Rattle.surface.specs.Surface.{Surface, axis_u, axis_v, checked, window_of}
 use Rattle.surface.specs.Doubles.{Doubled}
 use Rattle.surface.specs.SurfaceLaws.{AcceptedSurface, accepted-surface, checked-scale}
-use Rattle.scaled.specs.Magnitude.{Bounded}
 use Rattle.scaled.specs.Accepted.{Accepts}
 
 -- 2 ^ 100

@@ -8,7 +8,6 @@ use Rattle.surface.specs.SurfaceLaws.{checked-scale}
 use Rattle.surface.specs.Doubles.{Doubled}
 use Rattle.scaled.specs.declared.Accepted.{Accepted}
 use Rattle.scaled.specs.declared.Acceptance.{Acceptance}
-use Rattle.scaled.specs.declared.Acceptance.TheVariants as Acceptance
 use Rattle.scaled.specs.Magnitude.{Bounded}
 
 pub record Accepts (s : Surface) (a : Accepted) : Type 0 where

@@ -18,7 +18,6 @@ use Rattle.vector3.specs.declared.Vector3.{Vector3}
 use Rattle.patch.specs.declared.Sum.{Sum}
 use Rattle.patch.specs.declared.Jet.{Jet}
 use Rattle.patch.specs.declared.Evaluated.{Evaluated}
-use Rattle.patch.specs.declared.Evaluated.TheVariants as Evaluated
 use Rattle.patch.specs.Patch.{jet_of_sums}
 use Rattle.patch.specs.Patch as Patch
 use Rattle.domain.specs.declared.Counts.{Counts}

@@ -3,7 +3,6 @@ use Rattle.std.specs.Prelude.{◌≡◌, Bool, true, List, [], ℕ, suc, ◌-◌
 use Rattle.std.specs.Float.{nan}
 use Rattle.basis.specs.Parts.{value_of, part_of, shown_part}
 use Rattle.patch.specs.declared.Evaluated.{Evaluated}
-use Rattle.patch.specs.declared.Evaluated.TheVariants as Evaluated
 use Rattle.domain.specs.declared.Counts.{Counts}
 use Rattle.surface.specs.Surface.{Surface}
 use Rattle.surface.specs.Lent.{sample_on}

@@ -9,7 +9,6 @@ use Rattle.spline.specs.Knots.{Axis, axis, low, high, all_finite, refusal_of_kno
 use Rattle.basis.specs.Basis.{Three, three, Sample, refused, sample, basis_at}
 use Rattle.patch.specs.declared.Sums.{Sums}
 use Rattle.patch.specs.declared.Evaluated.{Evaluated}
-use Rattle.patch.specs.declared.Evaluated.TheVariants as Evaluated
 use Rattle.patch.specs.Patch.{add_control, empty_sums, rational}
 use Rattle.domain.specs.declared.Shape.{Shape}
 use Rattle.domain.specs.declared.Domain.{Domain}

@@ -7,7 +7,6 @@ use Rattle.std.proofs.lemmas.Bool.{not-false}
 use Rattle.float64.specs.Functions.{is_finite}
 use Rattle.float64.specs.Order.{neither}
 use Rattle.spline.specs.declared.weights.Weighed.{Weighed}
-use Rattle.spline.specs.declared.weights.Weighed.TheVariants as Weighed
 use Rattle.spline.specs.Weights.{sound, vanishing, is_empty, weighed, refusal_of}
 use Rattle.spline.specs.WeightLaws.{scale-of}
 use Rattle.spline.specs.Knots.{all_finite, refusal_of_knots}

@@ -2,7 +2,6 @@
 use mathlib.Core.Path.{◌≡◌}
 use mathlib.Core.Bool.{true, false}
 use lib.Ieee.{Float, binary64, rem, lt}
-use borrow.Author.Rules.{rules}
 use Rattle.float64.specs.Operators.{◌⊕◌, 0·}
 use Rattle.float64.specs.Functions.{abs, rem_euclid}
 use Rattle.float64.proofs.rem_euclid.Goals as goal

@@ -1,6 +1,5 @@
 -- The hint's run, and what is explored after it; with no hint the grid is explored at once.
 use mathlib.Core.Path.{sym, ◌∙◌}
-use borrow.Author.Rules.{rules}
 use Rattle.surface.specs.Surface.{Surface, surface}
 use Rattle.inversion.proofs.ExploreSteps.{unhinted, hint-spent, hint-refused, hint-fits, hint-close, hint-far}
 use Rattle.inversion.proofs.invert_nurbs.Goals as goal

@@ -1,15 +1,11 @@
 -- A turn of the loop takes one weight more.
-use mathlib.Core.Path.{◌≡◌, refl, sym, ◌∙◌}
+use mathlib.Core.Path.{◌≡◌}
 use mathlib.Core.Bool.{false}
 use Prim.Native.Nat.{◌+◌, ◌-◌, ◌≤◌}
-use native.Mathlib.Omega.{arith}
 use lib.Ieee.{is_nan}
 use Rattle.float64.specs.Functions.{max}
-use Rattle.float64.specs.Order.{max-larger, larger-number}
 use Rattle.net.specs.Sums.{turns, share_at}
 use Rattle.net.specs.Net.{Put}
-use Rattle.net.proofs.SumSteps.{no-turn, one-turn, nothing_put, one-put}
-use borrow.Author.Rules.{rules}
 use Rattle.net.proofs.scale_along.Given as goal
 
 abbrev pub invariant-loop-j : goal.invariant-loop-j

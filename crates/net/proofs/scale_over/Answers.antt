@@ -1,17 +1,11 @@
 -- A turn of the loop takes the weights of one row more.
 use mathlib.Core.Path.{◌≡◌}
-use mathlib.Core.Bool.{false}
-use Prim.Native.Nat.{◌+◌, ◌*◌, ◌-◌, ◌≤◌}
+use Prim.Native.Nat.{◌+◌}
 use native.Mathlib.Omega.{arith}
-use lib.Ieee.{is_nan}
-use Rattle.float64.specs.Operators.{0·}
-use Rattle.float64.specs.Functions.{max}
 use Rattle.float64.specs.Nonneg.{nonneg→number, zero-nonneg}
-use Rattle.net.specs.Sums.{turns, share_at, heaviest}
-use Rattle.net.specs.Net.{Holds}
+use Rattle.net.specs.Sums.{heaviest}
 use Rattle.net.specs.NetLaws.{row_inside}
 use Rattle.net.proofs.SumSteps.{no-turn, one-turn, row_room, no-row-held, row-held}
-use borrow.Author.Rules.{rules}
 use Rattle.net.proofs.scale_over.Goals as goal
 
 pub loop-i-init : goal.loop-i-init

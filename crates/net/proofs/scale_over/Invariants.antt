@@ -2,16 +2,11 @@
 use mathlib.Core.Path.{◌≡◌}
 use mathlib.Core.Bool.{false}
 use Prim.Native.Nat.{◌+◌, ◌*◌, ◌-◌, ◌≤◌}
-use native.Mathlib.Omega.{arith}
 use lib.Ieee.{is_nan}
 use Rattle.float64.specs.Operators.{0·}
 use Rattle.float64.specs.Functions.{max}
-use Rattle.float64.specs.Nonneg.{nonneg→number, zero-nonneg}
-use Rattle.net.specs.Sums.{turns, share_at, heaviest}
+use Rattle.net.specs.Sums.{turns, share_at}
 use Rattle.net.specs.Net.{Holds}
-use Rattle.net.specs.NetLaws.{row_inside}
-use Rattle.net.proofs.SumSteps.{no-turn, one-turn, row_room, no-row-held, row-held}
-use borrow.Author.Rules.{rules}
 use Rattle.net.proofs.scale_over.Given as goal
 
 abbrev pub invariant-loop-i : goal.invariant-loop-i

@@ -1,13 +1,7 @@
 -- A turn of the loop adds one control.
 use mathlib.Core.Path.{◌≡◌}
-use Prim.Native.Nat.{◌+◌, ◌-◌, ◌≤◌}
 use native.Mathlib.Omega.{arith}
-use lib.ListN.{get_or}
-use lib.Ieee.{nan}
-use Rattle.net.specs.Sums.{turns, control_at}
-use Rattle.net.specs.Net.{number_at, term}
 use Rattle.net.proofs.SumSteps.{no-turn, one-turn}
-use borrow.Author.Rules.{rules}
 use Rattle.net.proofs.sum_along.Goals as goal
 
 pub loop-j-init : goal.loop-j-init

@@ -1,15 +1,11 @@
 -- A turn of the loop adds the controls of one row.
 use mathlib.Core.Path.{◌≡◌}
 use Prim.Native.Nat.{◌+◌, ◌*◌, ◌-◌, ◌≤◌}
-use native.Mathlib.Omega.{arith}
 use lib.ListN.{get_or}
 use lib.Ieee.{nan}
 use Rattle.patch.specs.Patch.{empty_sum}
 use Rattle.net.specs.Sums.{turns, control_at}
-use Rattle.net.specs.Net.{number_at, term, sum_by}
-use Rattle.net.specs.NetLaws.{row_inside}
-use Rattle.net.proofs.SumSteps.{no-turn, one-turn, row_room}
-use borrow.Author.Rules.{rules}
+use Rattle.net.specs.Net.{number_at, term}
 use Rattle.net.proofs.sum_over.Given as goal
 
 abbrev pub invariant-loop-i : goal.invariant-loop-i

@@ -1,14 +1,7 @@
 -- A turn of the loop adds one control.
 use mathlib.Core.Path.{◌≡◌}
-use Prim.Native.Nat.{◌+◌, ◌-◌, ◌≤◌}
 use native.Mathlib.Omega.{arith}
-use lib.ListN.{get_or}
-use lib.Ieee.{nan}
-use Rattle.patch.specs.Patch.{add_control, three_of}
-use Rattle.net.specs.Sums.{turns, control_at}
-use Rattle.net.specs.Net.{three_at}
 use Rattle.net.proofs.SumSteps.{no-turn, one-turn}
-use borrow.Author.Rules.{rules}
 use Rattle.net.proofs.sums_along.Goals as goal
 
 pub loop-j-init : goal.loop-j-init

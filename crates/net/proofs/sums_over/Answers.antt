@@ -1,15 +1,10 @@
 -- A turn of the loop adds the controls of one row.
 use mathlib.Core.Path.{◌≡◌}
-use Prim.Native.Nat.{◌+◌, ◌*◌, ◌-◌, ◌≤◌}
+use Prim.Native.Nat.{◌+◌}
 use native.Mathlib.Omega.{arith}
-use lib.ListN.{get_or}
-use lib.Ieee.{nan}
-use Rattle.patch.specs.Patch.{add_control, empty_sums}
-use Rattle.net.specs.Sums.{turns, control_at}
-use Rattle.net.specs.Net.{three_at, sums_by}
+use Rattle.net.specs.Net.{sums_by}
 use Rattle.net.specs.NetLaws.{row_inside}
 use Rattle.net.proofs.SumSteps.{no-turn, one-turn, row_room}
-use borrow.Author.Rules.{rules}
 use Rattle.net.proofs.sums_over.Goals as goal
 
 pub loop-i-init : goal.loop-i-init

@@ -2,7 +2,6 @@
 use native.Mathlib.Omega.{arith}
 use Rattle.net.specs.NetLaws.{patch-room}
 use Rattle.net.proofs.SumSteps.{twice-divided}
-use borrow.Author.Rules.{rules}
 use Rattle.net.proofs.weigh.Goals as goal
 
 pub overflow_mul-u : goal.overflow_mul-u

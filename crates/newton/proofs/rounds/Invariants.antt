@@ -1,11 +1,8 @@
 -- The invariant: the rounds are those that are left from here, with a unit paid for each evaluation.
-use mathlib.Core.Path.{refl}
 use Prim.Native.Nat.{◌-◌}
-use native.Mathlib.Omega.{arith}
-use borrow.Author.Rules.{rules}
 use Rattle.surface.specs.Surface.{surface, evaluate_by}
 use Rattle.newton.specs.Run.{rounds}
-use Rattle.newton.proofs.RoundSteps.{Kept, full, ended, goes}
+use Rattle.newton.proofs.RoundSteps.{Kept}
 use Rattle.newton.proofs.rounds.Given as goal
 
 abbrev pub invariant-loop-taken : goal.invariant-loop-taken

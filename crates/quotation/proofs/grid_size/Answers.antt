@@ -1,7 +1,6 @@
 -- The two counts are those of the values, in the window that the checks passed.
 use native.Mathlib.Nat.{mul-le-mul}
 use native.Mathlib.Omega.{arith}
-use borrow.Author.Rules.{rules}
 use Rattle.surface.specs.Surface.{Surface, bare}
 use Rattle.surface.specs.SurfaceLaws.{small, accepted-axes}
 use Rattle.quotation.specs.QuoteLaws.{size-counted}

@@ -1,7 +1,5 @@
 -- By the flag.
-use mathlib.Core.Path.{refl, sym, ap}
 use native.Mathlib.Omega.{arith}
-use borrow.Author.Rules.{rules}
 use Rattle.quotation.specs.Quote.{margin}
 use Rattle.quotation.proofs.margin.Goals as goal
 

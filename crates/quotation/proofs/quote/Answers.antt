@@ -1,7 +1,5 @@
 -- Refused by the first check that refuses; else the grid, and what the runs add.
 use mathlib.Core.Path.{sym, ◌∙◌}
-use native.Mathlib.Omega.{arith}
-use borrow.Author.Rules.{rules}
 use Rattle.surface.specs.Surface.{Surface, bare}
 use Rattle.quotation.proofs.Steps.{large, refused, answered}
 use Rattle.quotation.proofs.quote.Goals as goal

@@ -1,6 +1,5 @@
 -- What is found by first derivatives alone, or the plain way.
 use Rattle.scaled.specs.Accepted.{not-refused}
-use borrow.Author.Rules.{rules}
 use Rattle.scaled.proofs.scaled_jet.Goals as goal
 
 pub first_order-quick-requires : goal.first_order-quick-requires

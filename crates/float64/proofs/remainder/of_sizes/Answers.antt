@@ -3,7 +3,6 @@ use mathlib.Core.Path.{ap, ◌∙◌}
 use Prim.Native.Nat.{ℕ, ◌*◌, ◌^◌}
 use native.Mathlib.Omega.{arith}
 use native.Mathlib.Nat.{lt_trans, mod-lt}
-use borrow.Author.Rules.{rules}
 use Rattle.float64.proofs.RemainderOfBits.{itself, by_digits}
 use Rattle.float64.proofs.remainder.of_sizes.Goals as goal
 

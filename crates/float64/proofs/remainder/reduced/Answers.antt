@@ -1,9 +1,7 @@
 -- The invariant: the digits and zeros that are left have the remainder that is asked for.
-use mathlib.Core.Path.{◌≡◌, ◌∙◌}
-use Prim.Native.Nat.{◌*◌, ◌%◌, ◌^◌, ◌<◌}
+use mathlib.Core.Path.{◌∙◌}
 use native.Mathlib.Nat.{lt_trans, mod-lt}
 use native.Mathlib.Omega.{arith}
-use borrow.Author.Rules.{rules}
 use Rattle.float64.proofs.RemainderOfBits.{turn, last}
 use Rattle.float64.proofs.remainder.reduced.Goals as goal
 

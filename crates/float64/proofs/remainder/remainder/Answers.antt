@@ -5,7 +5,6 @@ use Prim.Native.Nat.{◌+◌, ◌-◌, ◌%◌, ◌^◌}
 use lib.Ieee.{binary64, rem, to_bits, of_bits, div}
 use lib.Ieee.Fits.{rem-fits}
 use borrow.Author.Rules.{rules}
-use borrow.Author.Tests.{not-true, not-false}
 use Rattle.float64.specs.Functions.{is_finite}
 use Rattle.float64.specs.Order.{finite→number}
 use Rattle.float64.proofs.Small.{number, not-nan}

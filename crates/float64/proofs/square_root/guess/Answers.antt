@@ -1,7 +1,6 @@
 use native.Mathlib.Omega.{arith}
 use Rattle.float64.proofs.Patterns.{not-nan-bits}
 use Rattle.float64.proofs.Small.{not-nan}
-use borrow.Author.Rules.{rules}
 use Rattle.float64.proofs.square_root.guess.Goals as goal
 
 pub float_from_bits-x : goal.float_from_bits-x

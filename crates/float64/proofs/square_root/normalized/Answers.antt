@@ -1,4 +1,3 @@
-use borrow.Author.Rules.{rules}
 use Rattle.float64.proofs.Normal.{normal, subnormal}
 use Rattle.float64.proofs.square_root.normalized.Goals as goal
 

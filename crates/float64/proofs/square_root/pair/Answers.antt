@@ -1,4 +1,3 @@
-use borrow.Author.Rules.{rules}
 use Rattle.float64.proofs.Digits.{pair-below, pair-above}
 use Rattle.float64.proofs.square_root.pair.Goals as goal
 

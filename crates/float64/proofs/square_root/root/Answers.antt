@@ -1,6 +1,5 @@
 use mathlib.Core.Path.{sym}
 use lib.Ieee.{of_bits, div}
-use borrow.Author.Rules.{rules}
 use Rattle.float64.specs.RootLaws.{root-special}
 use Rattle.float64.proofs.RootOfBits.{at_zero, above_zero, other}
 use Rattle.float64.proofs.square_root.root.Goals as goal

@@ -1,7 +1,5 @@
 use Prim.Native.Nat.{◌*◌, ◌^◌, ◌≤◌}
-use native.Mathlib.Omega.{arith}
-use borrow.Author.Rules.{rules}
-use Rattle.float64.proofs.Digits.{Partial, begin, one, nought, up, cut}
+use Rattle.float64.proofs.Digits.{Partial}
 use Rattle.float64.proofs.square_root.root_by_digits.Given as goal
 
 abbrev pub invariant-loop-k : goal.invariant-loop-k

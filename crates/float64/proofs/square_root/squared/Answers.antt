@@ -1,6 +1,5 @@
 use native.Mathlib.Omega.{arith}
 use Rattle.float64.proofs.Guess.{parts}
-use borrow.Author.Rules.{rules}
 use Rattle.float64.proofs.square_root.squared.Goals as goal
 
 pub overflow_mul-aa : goal.overflow_mul-aa

@@ -1,6 +1,5 @@
 -- What the walk says of its survey is what the search goes on from.
 use native.Mathlib.Omega.{arith}
-use borrow.Author.Rules.{rules}
 use Rattle.surface.specs.Surface.{Surface, surface}
 use Rattle.surface.specs.SurfaceLaws.{AcceptedSurface, accepted-surface}
 use Rattle.scaled.specs.Accepted.{not-refused}

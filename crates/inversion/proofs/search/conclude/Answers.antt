@@ -1,5 +1,4 @@
 -- No run is left: the end that is kept, where there is one and the units are left.
-use borrow.Author.Rules.{rules}
 use Rattle.inversion.proofs.SearchSteps.{concludes-none, concludes-short, concludes-end}
 use Rattle.inversion.proofs.search.conclude.Goals as goal
 

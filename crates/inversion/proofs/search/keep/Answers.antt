@@ -1,5 +1,4 @@
 -- The laws say what is kept.
-use borrow.Author.Rules.{rules}
 use Rattle.inversion.proofs.SearchSteps.{keeps-first, keeps-nearer, keeps-earlier}
 use Rattle.inversion.proofs.search.keep.Goals as goal
 

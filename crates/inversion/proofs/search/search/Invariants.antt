@@ -1,14 +1,10 @@
 -- The invariant: the steps of the whole are those that are left, with what is taken and kept so far.
-use mathlib.Core.Path.{◌≡◌, refl}
 use Prim.Native.Nat.{◌-◌, ◌≤◌}
-use native.Mathlib.Omega.{arith}
-use lib.ListN.{length, take}
-use borrow.Author.Rules.{rules}
+use lib.ListN.{take}
 use Rattle.price.specs.Price.{after}
 use Rattle.surface.specs.Surface.{surface, evaluate_by}
-use Rattle.shortlist.proofs.Places.{unmapped}
 use Rattle.inversion.specs.Inversion.{searched}
-use Rattle.inversion.proofs.SearchSteps.{Stands, run_fits, end_fits, search-ends, search-spent, search-refused, search-goes}
+use Rattle.inversion.proofs.SearchSteps.{Stands}
 use Rattle.inversion.proofs.search.search.Given as goal
 
 abbrev pub invariant-loop-i : goal.invariant-loop-i

@@ -1,5 +1,4 @@
 -- The distance, and one root more.
-use borrow.Author.Rules.{rules}
 use native.Mathlib.Numerals.{add-one}
 use Rattle.patch.specs.Patch.{from_mark}
 use Rattle.newton.proofs.measure.measure.Goals as goal

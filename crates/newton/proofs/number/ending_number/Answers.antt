@@ -1,5 +1,4 @@
 -- Each case is the definition's.
-use borrow.Author.Rules.{rules}
 use Rattle.newton.specs.Run.{ending_number}
 use Rattle.newton.proofs.number.ending_number.Goals as goal
 

@@ -1,5 +1,4 @@
 -- The definition's own test.
-use borrow.Author.Rules.{rules}
 use Rattle.newton.specs.Run.{clamp_into}
 use Rattle.newton.proofs.round.clamp_into.Goals as goal
 

@@ -1,5 +1,4 @@
 -- What `max` and `abs` say.
-use borrow.Author.Rules.{rules}
 use Rattle.newton.specs.Run.{is_small_step}
 use Rattle.newton.proofs.round.is_small_step.Goals as goal
 

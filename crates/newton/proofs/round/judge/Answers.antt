@@ -1,5 +1,4 @@
 -- The definition's own tests, in its order.
-use borrow.Author.Rules.{rules}
 use Rattle.newton.specs.Run.{judge}
 use Rattle.newton.proofs.round.judge.Goals as goal
 

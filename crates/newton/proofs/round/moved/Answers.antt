@@ -1,5 +1,4 @@
 -- The definition's own test.
-use mathlib.Core.Logic.{⊎_elim}
 use Rattle.newton.specs.Run.{moved}
 use Rattle.newton.proofs.round.moved.Goals as goal
 use Rattle.newton.proofs.round.moved.Goals.{else-u-from-via-then-u-from+else-v-from, else-u-from-via-else-u-from}

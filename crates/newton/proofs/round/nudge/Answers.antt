@@ -1,5 +1,4 @@
 -- What `clamp_into` says of what `inward` says.
-use borrow.Author.Rules.{rules}
 use Rattle.newton.specs.Run.{nudged}
 use Rattle.newton.proofs.round.nudge.Goals as goal
 

@@ -1,5 +1,4 @@
 -- The step's two cases.
-use borrow.Author.Rules.{rules}
 use Rattle.newton.specs.Run.{plan_by, plan}
 use Rattle.newton.proofs.round.plan_from.Goals as goal
 

@@ -1,5 +1,4 @@
 -- Each way out of a round is a case of its definition.
-use borrow.Author.Rules.{rules}
 use Rattle.newton.proofs.RoundSteps.{halted, unpaid, unfound, further, last, onward}
 use Rattle.newton.proofs.round.round.Goals as goal
 

@@ -1,5 +1,4 @@
 -- What `solve` says of five products.
-use borrow.Author.Rules.{rules}
 use Rattle.newton.specs.Run.{step_of}
 use Rattle.newton.proofs.round.step_of.Goals as goal
 

@@ -3,7 +3,6 @@ use mathlib.Core.Path.{sym, ◌∙◌}
 use Rattle.surface.specs.Surface.{Surface, surface}
 use Rattle.surface.specs.Doubles.{Doubled}
 use Rattle.scaled.proofs.AcceptSteps.{sound, accepts}
-use borrow.Author.Rules.{rules}
 use Rattle.scaled.proofs.accepting.accept.Goals as goal
 
 pub window_of-window-requires : goal.window_of-window-requires

@@ -1,10 +1,8 @@
 -- The loop's invariant: those before i are within, where all tells so.
 use mathlib.Core.Path.{◌≡◌}
 use Prim.Native.Nat.{◌≤◌, ◌-◌}
-use native.Mathlib.Omega.{arith}
 use lib.ListN.{length}
-use Rattle.scaled.proofs.AcceptSteps.{Told, told_more}
-use borrow.Author.Rules.{rules}
+use Rattle.scaled.proofs.AcceptSteps.{Told}
 use Rattle.scaled.proofs.accepting.all_within.Given as goal
 
 abbrev pub invariant-loop-i : goal.invariant-loop-i

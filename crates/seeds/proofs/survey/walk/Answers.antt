@@ -1,27 +1,17 @@
 -- Both invariants say what holds between two evaluations, and that what the whole comes to is what is left.
 use mathlib.Core.Path.{◌≡◌}
-use mathlib.Core.Logic.{⊎_elim}
-use mathlib.Core.List.{List}
-use Prim.Native.Nat.{ℕ, ◌-◌}
 use native.Mathlib.Omega.{arith}
 use lib.ListN.{length}
-use lib.Ieee.{Float}
 use borrow.Author.Rules.{rules}
-use borrow.Author.Tests.{not-false}
-use Rattle.vector3.specs.declared.Vector3.{Vector3}
 use Rattle.vector3.specs.Laws.{Finite}
-use Rattle.surface.specs.Surface.{surface, evaluate_by}
 use Rattle.surface.specs.SurfaceLaws.{accepted-surface}
 use Rattle.surface.specs.EvaluateLaws.{evaluate-finite}
-use Rattle.scaled.specs.declared.Accepted.{Accepted}
 use Rattle.scaled.specs.Accepted.{not-refused}
 use Rattle.seeds.specs.Finite.{from-mark-number}
 use Rattle.shortlist.specs.Insert.{Sound}
-use Rattle.seeds.specs.Table.{NetFor}
-use Rattle.shortlist.proofs.Places.{unmapped, left_out, keepable, put_in}
+use Rattle.shortlist.proofs.Places.{left_out, keepable, put_in}
 use Rattle.seeds.proofs.TableSteps.{none-weighed, shown, not-shown}
-use Rattle.seeds.proofs.WalkSteps.{Tour, AtRow, AtPoint, walk_begins, row-begins, grid-ends, row_ends, row-spent, row-refused, row_goes}
-use Rattle.seeds.proofs.survey.walk.Invariants.{tour}
+use Rattle.seeds.proofs.WalkSteps.{walk_begins, row-begins, grid-ends, row_ends, row-spent, row-refused, row_goes}
 use Rattle.seeds.proofs.survey.walk.Goals as goal
 use Rattle.seeds.proofs.survey.walk.Goals.{then-not-shortlist-square, else-not-shortlist-square}
 

@@ -1,10 +1,8 @@
 -- The values before the j-th have their functions, and the rows of those after it are empty.
 use mathlib.Core.Path.{◌≡◌}
-use Prim.Native.Nat.{◌-◌, ◌≤◌, ◌<◌}
+use Prim.Native.Nat.{◌<◌}
 use native.Mathlib.Omega.{arith}
-use Rattle.seeds.specs.Table.{Tabled}
-use Rattle.seeds.proofs.TableSteps.{Blank, none-tabled, all-blank, one-tabled, rest-blank}
-use borrow.Author.Rules.{rules}
+use Rattle.seeds.proofs.TableSteps.{none-tabled, all-blank, one-tabled, rest-blank}
 use Rattle.seeds.proofs.table.fill_table.Goals as goal
 
 pub loop-j-init : goal.loop-j-init

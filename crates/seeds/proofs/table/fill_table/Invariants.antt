@@ -1,10 +1,7 @@
 -- The values before the j-th have their functions, and the rows of those after it are empty.
-use mathlib.Core.Path.{◌≡◌}
-use Prim.Native.Nat.{◌-◌, ◌≤◌, ◌<◌}
-use native.Mathlib.Omega.{arith}
+use Prim.Native.Nat.{◌-◌, ◌≤◌}
 use Rattle.seeds.specs.Table.{Tabled}
-use Rattle.seeds.proofs.TableSteps.{Blank, none-tabled, all-blank, one-tabled, rest-blank}
-use borrow.Author.Rules.{rules}
+use Rattle.seeds.proofs.TableSteps.{Blank}
 use Rattle.seeds.proofs.table.fill_table.Given as goal
 
 abbrev pub invariant-loop-j : goal.invariant-loop-j

@@ -1,6 +1,5 @@
 -- By the two answers.
 use Rattle.seeds.specs.Table.{located}
-use borrow.Author.Rules.{rules}
 use Rattle.seeds.proofs.table.located.Goals as goal
 
 pub returns-in-Found : goal.returns-in-Found

@@ -1,9 +1,7 @@
 -- The point by the values where both start and their weight sum is large enough, else that of the evaluation.
 use mathlib.Core.Path.{ap, ◌∙◌}
-use mathlib.Core.Logic.{⊎_elim}
 use Prim.Native.Nat.{◌<◌}
 use native.Mathlib.Omega.{arith}
-use borrow.Author.Rules.{rules}
 use Rattle.surface.specs.Surface.{Surface, surface}
 use Rattle.surface.specs.PatchLaws.{weights-lent, controls-lent}
 use Rattle.scaled.specs.Accepted.{not-refused}

@@ -1,5 +1,4 @@
 -- The weights are those that are asked for, or are there already.
-use borrow.Author.Rules.{rules}
 use Rattle.seeds.proofs.TableSteps.{newly-weighed, still-weighed}
 use Rattle.seeds.proofs.table.reweigh.Goals as goal
 

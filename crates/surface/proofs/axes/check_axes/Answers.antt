@@ -1,6 +1,5 @@
 -- The first check that refuses, or the next.
-use mathlib.Core.Path.{refl, sym, ◌∙◌}
-use borrow.Author.Rules.{rules}
+use mathlib.Core.Path.{sym, ◌∙◌}
 use Rattle.surface.proofs.AxesSteps.{here, onward}
 use Rattle.surface.proofs.axes.check_axes.Goals as goal
 

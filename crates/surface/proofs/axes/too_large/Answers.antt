@@ -1,6 +1,5 @@
 -- By the product of the counts, and by the knots of both axes.
 use native.Mathlib.Omega.{arith}
-use borrow.Author.Rules.{rules}
 use Rattle.surface.specs.Surface.{Surface, bare}
 use Rattle.surface.proofs.AxesSteps.{many-controls, many-knots, few}
 use Rattle.surface.proofs.axes.too_large.Goals as goal

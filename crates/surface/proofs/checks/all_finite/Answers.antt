@@ -1,9 +1,9 @@
 -- The loop's invariant: all are finite where those before i and those from i on are.
-use mathlib.Core.Path.{◌≡◌, refl, sym, ap, ◌∙◌}
+use mathlib.Core.Path.{refl, sym, ap, ◌∙◌}
 use mathlib.Core.Bool.{Bool, ◌&&◌}
-use Prim.Native.Nat.{◌+◌, ◌≤◌, ◌-◌}
+use Prim.Native.Nat.{◌+◌}
 use native.Mathlib.Omega.{arith}
-use lib.ListN.{length, drop}
+use lib.ListN.{drop}
 use Rattle.spline.specs.Knots.{all_finite}
 use Rattle.spline.specs.Each.{tells_more, tells_all}
 use Rattle.surface.specs.SurfaceLaws.{finite-each}

@@ -1,13 +1,9 @@
 -- The loop's invariant: all are finite where those before i and those from i on are.
-use mathlib.Core.Path.{◌≡◌, refl, sym, ap, ◌∙◌}
-use mathlib.Core.Bool.{Bool, ◌&&◌}
-use Prim.Native.Nat.{◌+◌, ◌≤◌, ◌-◌}
-use native.Mathlib.Omega.{arith}
+use mathlib.Core.Path.{◌≡◌}
+use mathlib.Core.Bool.{◌&&◌}
+use Prim.Native.Nat.{◌≤◌, ◌-◌}
 use lib.ListN.{length, drop}
 use Rattle.spline.specs.Knots.{all_finite}
-use Rattle.spline.specs.Each.{tells_more, tells_all}
-use Rattle.surface.specs.SurfaceLaws.{finite-each}
-use borrow.Author.Rules.{rules}
 use Rattle.surface.proofs.checks.all_finite.Given as goal
 
 abbrev pub invariant-loop-i : goal.invariant-loop-i

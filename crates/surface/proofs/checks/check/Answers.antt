@@ -1,8 +1,6 @@
 -- After each check that passes, those after it are left.
 use mathlib.Core.Path.{sym, ◌∙◌}
 use native.Mathlib.Omega.{arith}
-use borrow.Author.Rules.{rules}
-use borrow.Author.Tests.{not-true, not-false}
 use Rattle.surface.specs.Surface.{Surface, surface}
 use Rattle.surface.proofs.CheckSteps.{from_counts, from_controls, from_weights, from_knots_u, from_knots_v, from_window, Leaves, large-controls, large-knots, to-counts, miscounted-controls, miscounted-weights, to-controls, not_finite, to-weights, refused-weights, to-knots, refused-u, to-knots-v, refused-v, to-window, refused-window, accepted-window}
 use Rattle.surface.proofs.checks.check.Goals as goal

@@ -1,5 +1,4 @@
 -- A quotient of the limit tells whether the product is over it.
-use borrow.Author.Rules.{rules}
 use native.Mathlib.Omega.{arith}
 use Rattle.surface.proofs.CheckSteps.{no-product, product-over, product-within}
 use Rattle.surface.proofs.checks.product.Goals as goal

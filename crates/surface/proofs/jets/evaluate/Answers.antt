@@ -2,7 +2,6 @@
 use mathlib.Core.Path.{sym, ◌∙◌}
 use Rattle.surface.specs.SurfaceLaws.{checked-scale}
 use Rattle.surface.proofs.EvaluateSteps.{told-refusal, told-scale}
-use borrow.Author.Rules.{rules}
 use Rattle.surface.proofs.jets.evaluate.Goals as goal
 
 pub surface_jet-requires : goal.surface_jet-requires

@@ -1,6 +1,5 @@
 -- By the two answers.
 use Rattle.surface.specs.Surface.{or_nine}
-use borrow.Author.Rules.{rules}
 use Rattle.surface.proofs.jets.or_nine.Goals as goal
 
 pub returns-in-Found : goal.returns-in-Found

@@ -1,5 +1,4 @@
 -- The sums over the patch where both functions start, or a refusal where one is not found.
-use borrow.Author.Tests.{not-true, not-false}
 use Rattle.surface.specs.Surface.{Surface, surface}
 use Rattle.surface.specs.SurfaceLaws.{accepted-surface}
 use Rattle.net.specs.Net.{Patch}
