@@ -31,12 +31,10 @@ use Rattle.inversion.specs.declared.Hint.{Hint}
 use Rattle.inversion.specs.declared.Hint.TheVariants.{Nothing, At}
 use Rattle.inversion.specs.declared.Choice.{Choice}
 use Rattle.inversion.specs.declared.Best.{Best}
-use Rattle.inversion.specs.declared.Best.TheVariants as Best
 use Rattle.inversion.specs.Inversion.{numbered, led, choose, runs, searched, explored, unless_close, hinted, plain_steps, inversion_by}
 use Rattle.chart.specs.declared.Period.TheVariants.{Free}
 use Rattle.chart.specs.declared.Terms.{Terms}
 use Rattle.chart.specs.declared.Placing.{Placing}
-use Rattle.chart.specs.declared.Placing.TheVariants as Placing
 use Rattle.chart.specs.Chart.{sound_search, nearest_to}
 use Rattle.chart.specs.Chart as Chart
 use Rattle.inverter.specs.declared.Components.{Components}

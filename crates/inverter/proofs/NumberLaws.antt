@@ -22,7 +22,6 @@ use Rattle.price.specs.Price.{Priced, refused, answered, price}
 use Rattle.inversion.specs.declared.Choice.{Choice}
 use Rattle.chart.specs.declared.Terms.{Terms}
 use Rattle.chart.specs.declared.Placing.{Placing}
-use Rattle.chart.specs.declared.Placing.TheVariants as Placing
 use Rattle.chart.specs.Chart.{sound_search, placed_by}
 use Rattle.chart.specs.Chart as Chart
 use Rattle.inverter.specs.declared.Components.{Components}

@@ -6,7 +6,6 @@ use Rattle.surface.specs.declared.Checked.TheVariants as Check
 use Rattle.surface.specs.Surface.{Surface, checked}
 use Rattle.chart.specs.declared.Terms.{Terms}
 use Rattle.chart.specs.declared.Placing.{Placing}
-use Rattle.chart.specs.declared.Placing.TheVariants as Placing
 use Rattle.chart.specs.Chart.{sound_search, placed_by}
 use Rattle.inverter.specs.declared.Components.{Components}
 use Rattle.inverter.specs.declared.Components.TheVariants.{Along, Refusal}

@@ -13,7 +13,6 @@ use Rattle.edges.specs.declared.Singular.{Singular}
 use Rattle.edges.specs.declared.Edge.{Edge}
 use Rattle.edges.specs.declared.Edge.TheVariants.{Open, Collapsed}
 use Rattle.edges.specs.declared.Edges.{Edges}
-use Rattle.edges.specs.declared.Edges.TheVariants as Edges
 use Rattle.laid.specs.Laid.{Tells, first_of, flag_of, edge_at, edges_into}
 
 -- ---- a row's end

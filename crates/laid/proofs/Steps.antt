@@ -8,13 +8,10 @@ use lib.ListN.{length, get_or, set, length-set}
 use lib.Ieee.{Float, nan}
 use Rattle.quotation.specs.declared.Costing.{Costing}
 use Rattle.quotation.specs.declared.Quotation.{Quotation}
-use Rattle.quotation.specs.declared.Quotation.TheVariants as Quotation
 use Rattle.patch.specs.declared.Jet.{Jet}
 use Rattle.surface.specs.declared.Evaluation.{Evaluation}
-use Rattle.surface.specs.declared.Evaluation.TheVariants as Evaluation
 use Rattle.inversion.specs.declared.Choice.{Choice}
 use Rattle.chart.specs.declared.Placing.{Placing}
-use Rattle.chart.specs.declared.Placing.TheVariants as Placing
 use Rattle.row.specs.Row.{end_of, origin_of}
 use Rattle.digits.specs.Text.{Put, written}
 use Rattle.laid.specs.declared.answers.Answer.{Answer}

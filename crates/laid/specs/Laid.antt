@@ -1,19 +1,14 @@
 -- How an answer is laid out in what a caller lends. Definitions only.
 use Rattle.std.specs.Prelude.{ℕ, ◌+◌, ◌-◌, List, [], ◌∷◌, ◌++◌, length, take, drop, get_or, Float}
 use Rattle.quotation.specs.declared.Quotation.{Quotation}
-use Rattle.quotation.specs.declared.Quotation.TheVariants as Quotation
 use Rattle.patch.specs.declared.Jet.{Jet}
 use Rattle.surface.specs.declared.Evaluation.{Evaluation}
-use Rattle.surface.specs.declared.Evaluation.TheVariants as Evaluation
 use Rattle.chart.specs.declared.Placing.{Placing}
-use Rattle.chart.specs.declared.Placing.TheVariants as Placing
 use Rattle.inverter.specs.declared.Components.{Components}
-use Rattle.inverter.specs.declared.Components.TheVariants as Components
 use Rattle.row.specs.Row.{u_of, v_of, end_of, origin_of}
 use Rattle.edges.specs.declared.Edge.{Edge}
 use Rattle.edges.specs.declared.Edge.TheVariants.{Open, Collapsed}
 use Rattle.edges.specs.declared.Edges.{Edges}
-use Rattle.edges.specs.declared.Edges.TheVariants as Edges
 use Rattle.laid.specs.declared.answers.Answer.{Answer}
 use Rattle.laid.specs.declared.answers.Answer.TheVariants.{Pair, Refusal}
 

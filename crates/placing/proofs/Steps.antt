@@ -16,10 +16,8 @@ use Rattle.surface.specs.declared.Evaluation.{Evaluation}
 use Rattle.surface.specs.Surface.{surface, bare, evaluated}
 use Rattle.chart.specs.declared.Terms.{Terms}
 use Rattle.chart.specs.declared.Placing.{Placing}
-use Rattle.chart.specs.declared.Placing.TheVariants as Placing
 use Rattle.chart.specs.Chart as Chart
 use Rattle.inverter.specs.declared.Components.{Components}
-use Rattle.inverter.specs.declared.Components.TheVariants as Components
 use Rattle.inverter.specs.Inverter.{placed}
 use Rattle.inverter.specs.Inverter as Inverter
 use Rattle.inverter.specs.Preimage.{derived}

@@ -35,7 +35,7 @@ fn has_argument<R: Env>(rt: &R) -> bool {
 
 // With any argument the program reads nothing and tells its version.
 fn about<R: Eprint>(rt: &R) {
-    let _ = rt.eprintln("quote 0.5.1\nusage: quote < JOB");
+    let _ = rt.eprintln("quote 0.5.0\nusage: quote < JOB");
 }
 
 fn print<R: Print + Eprint>(rt: &R, file: &[u8]) {

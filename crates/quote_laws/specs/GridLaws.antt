@@ -1,14 +1,14 @@
 -- The quote's grid: it is that of the definition of an inversion, and by how many knots it has how many points. Assumes nothing.
-use Rattle.std.specs.Prelude.{◌≡◌, refl, Bool, cond, ◌↔◌, ℕ, zero, suc, ◌+◌, ◌*◌, ◌≤◌, ◌<◌, eqb, length, Float}
+use Rattle.std.specs.Prelude.{◌≡◌, refl, Bool, cond, ℕ, zero, suc, ◌+◌, ◌*◌, ◌≤◌, eqb, length, Float}
 use Rattle.std.proofs.Math.Path.{sym}
-use Rattle.std.proofs.Common.{ap, ◌∙◌, zero-mul, suc-mul, mul-le-mul, length-append, eqb-true, eq-eqb}
+use Rattle.std.proofs.Common.{ap, ◌∙◌, zero-mul, suc-mul, length-append}
 use Rattle.std.proofs.Math.Bool.{true, false}
-use mathlib.Core.List.{List, [], ◌∷◌, ◌++◌, map, Memᴰ}
+use mathlib.Core.List.{List, [], ◌∷◌, map}
 use native.Mathlib.Omega.{arith}
 use Rattle.price.specs.Evaluations.{Pair}
 use Rattle.domain.specs.declared.Window.TheVariants.{Whole}
-use Rattle.spline.specs.Knots.{Axis, low, high, refusal_of_knots}
-use Rattle.grid.specs.Axis.{breaks_of, stride, values_of}
+use Rattle.spline.specs.Knots.{low, high}
+use Rattle.grid.specs.Axis.{stride}
 use Rattle.grid.specs.AxisLaws.{breaks-length, values_for, never-more}
 use Rattle.domain.specs.Windows.{window_in}
 use Rattle.window.specs.Values.{values_u, values_v}

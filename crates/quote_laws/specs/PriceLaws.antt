@@ -1,15 +1,14 @@
 -- No price exceeds its quote: what an inversion takes, for all input, and that with the quote for a budget it is never short. Assumes nothing.
 use Rattle.std.specs.Prelude.{◌≡◌, Bool, not, cond, ◌||◌, leb, ltb, eqb}
 use Rattle.std.proofs.Math.Path.{refl}
-use Rattle.std.proofs.Common.{sym, ap, ◌∙◌, leb-true, leb-false}
+use Rattle.std.proofs.Common.{◌∙◌, leb-true, leb-false}
 use Rattle.std.proofs.Math.Bool.{true, false}
-use Prim.Native.Nat.{ℕ, zero, suc, ◌+◌, ◌≤◌, ◌<◌}
+use Prim.Native.Nat.{ℕ, zero, suc, ◌+◌, ◌≤◌}
 use native.Mathlib.Omega.{arith}
 use Rattle.vector3.specs.declared.Vector3.{Vector3}
 use Rattle.price.specs.Price.{Priced, refused, answered}
 use Rattle.price.specs.Price as Price
 use Rattle.spline.specs.declared.weights.Weighed.{Weighed}
-use Rattle.spline.specs.declared.weights.Weighed.TheVariants as Weighed
 use Rattle.spline.specs.Weights.{weighed, refusal_of}
 use Rattle.spline.specs.Knots.{Axis, all_finite, accepted_knots, refusal_of_knots}
 use Rattle.domain.specs.Windows.{misfits}
@@ -21,7 +20,6 @@ use Rattle.inversion.proofs.PriceLaws.{runs_for}
 use Rattle.inversion.proofs.SurfaceLaws.{price-by-grid}
 use Rattle.chart.specs.declared.Terms.{Terms}
 use Rattle.chart.specs.declared.Placing.{Placing}
-use Rattle.chart.specs.declared.Placing.TheVariants.{Pair, Refusal}
 use Rattle.chart.specs.Chart.{sound_search, placed_by, taken_of, number_of}
 use Rattle.inverter.specs.Inverter.{on_checked, placed}
 use Rattle.inverter.specs.PlacingLaws.{steps_of, result_of, answer-enough, answer-short}
@@ -29,7 +27,7 @@ use Rattle.quotation.specs.declared.Costing.{Costing}
 use Rattle.quotation.specs.declared.Quotation.TheVariants.{Quoted}
 use Rattle.quotation.specs.Quote.{grid_size, margin}
 use Rattle.quote_laws.specs.Quotes.{has_hint, quoted_for}
-use Rattle.quote_laws.specs.GridLaws.{Sized, quoted-sized}
+use Rattle.quote_laws.specs.GridLaws.{quoted-sized}
 
 -- ---- no check of a surface refuses with 8
 

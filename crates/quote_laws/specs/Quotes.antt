@@ -1,5 +1,5 @@
 -- What a quote is for: terms with a hint or without, and a row's marks. Definitions only.
-use Rattle.std.specs.Prelude.{ℕ, zero, suc, ◌+◌, ◌*◌, Bool, true, false, List, [], ◌∷◌, ◌⊎◌}
+use Rattle.std.specs.Prelude.{ℕ, zero, suc, ◌+◌, ◌*◌, Bool, true, false, List, [], ◌∷◌}
 use Rattle.inversion.specs.declared.Hint.{Hint}
 use Rattle.inversion.specs.declared.Hint.TheVariants.{Nothing, At}
 use Rattle.chart.specs.declared.Terms.{Terms}

@@ -1,7 +1,7 @@
 -- A row's units are within the first mark's quote and a hinted quote for each later mark, for all input. Assumes nothing.
 use Rattle.std.specs.Prelude.{◌≡◌, Bool, not, length, Float}
 use Rattle.std.proofs.Math.Path.{refl}
-use Rattle.std.proofs.Common.{ap, ◌∙◌}
+use Rattle.std.proofs.Common.{◌∙◌}
 use Rattle.std.proofs.Math.Bool.{true, false}
 use mathlib.Core.List.{List, [], ◌∷◌}
 use Prim.Native.Nat.{ℕ, zero, suc, ◌+◌, ◌-◌, ◌*◌, ◌≤◌}
@@ -24,7 +24,7 @@ use Rattle.quotation.specs.declared.Costing.{Costing}
 use Rattle.quotation.specs.declared.Quotation.TheVariants.{Quoted}
 use Rattle.quotation.specs.Quote.{grid_size, margin, quoted}
 use Rattle.quote_laws.specs.Quotes.{has_hint, quoted_for, quotes_of}
-use Rattle.quote_laws.specs.GridLaws.{Sized, quoted-sized}
+use Rattle.quote_laws.specs.GridLaws.{quoted-sized}
 use Rattle.quote_laws.specs.PriceLaws.{surface-not-eight, WithinQuote, placed-within, taken-within-quote}
 
 -- a row takes at most so much of its budget, and with that much is never short

@@ -21,7 +21,6 @@ use Rattle.row_step.specs.declared.Stepped.{Stepped}
 use Rattle.row_step.specs.declared.Stepped.TheVariants.{Placed, Refusal}
 use Rattle.row_step.specs.Step.{stepped}
 use Rattle.row.specs.declared.RowEnd.{RowEnd}
-use Rattle.row.specs.declared.RowEnd.TheVariants as RowEnd
 use Rattle.row.specs.Row.{Entry, Rowed, marks_of, refused_at, preceded, and_then, in_turn, unless_refused, rowed, misfit, row_into, listed, written, u_of, v_of, end_of, origin_of, Left, leaving}
 use Rattle.row.specs.Turns.{mark_at, fronted}
 

@@ -24,11 +24,9 @@ use Rattle.inverter.specs.Inverter.{on_checked, placed}
 use Rattle.inverter.specs.PairLaws.{Shifted, placed_pair}
 use Rattle.row_step.specs.declared.Progress.{Progress}
 use Rattle.row_step.specs.declared.Stepped.{Stepped}
-use Rattle.row_step.specs.declared.Stepped.TheVariants as Stepped
 use Rattle.row_step.specs.Step.{with_hint, led_by, step_by, stepped}
 use Rattle.row_step.specs.StepLaws.{OffShell, off-shell-lost}
 use Rattle.row.specs.declared.RowEnd.{RowEnd}
-use Rattle.row.specs.declared.RowEnd.TheVariants as RowEnd
 use Rattle.row.specs.Row.{Entry, Rowed, refused_at, preceded, and_then, in_turn, marks_of, unless_refused, rowed, misfit, row_into, u_of, v_of}
 use Rattle.row.specs.RowLaws.{fits, misfit-refused, row_fits}
 

@@ -11,7 +11,6 @@ use Rattle.row_step.specs.declared.Stepped.{Stepped}
 use Rattle.row_step.specs.declared.Stepped.TheVariants.{Placed, Refusal}
 use Rattle.row_step.specs.Step.{stepped}
 use Rattle.row.specs.declared.RowEnd.{RowEnd}
-use Rattle.row.specs.declared.RowEnd.TheVariants as RowEnd
 
 -- a mark's answer, and the budget left after it
 pub record Entry : Type 0 where

@@ -12,7 +12,6 @@ use Rattle.inversion.specs.declared.Hint.TheVariants.{Nothing, At}
 use Rattle.inversion.specs.Inversion.{within}
 use Rattle.chart.specs.declared.Terms.{Terms}
 use Rattle.chart.specs.declared.Placing.{Placing}
-use Rattle.chart.specs.declared.Placing.TheVariants as Placing
 use Rattle.chart.specs.Chart.{sound_search, placed_by, taken_of}
 use Rattle.inverter.specs.Inverter.{on_checked, placed}
 use Rattle.inverter.specs.PlacingLaws.{placed-sound}

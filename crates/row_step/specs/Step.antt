@@ -8,7 +8,6 @@ use Rattle.inversion.specs.declared.Hint.TheVariants.{Nothing, At}
 use Rattle.inversion.specs.Inversion.{within}
 use Rattle.chart.specs.declared.Terms.{Terms}
 use Rattle.chart.specs.declared.Placing.{Placing}
-use Rattle.chart.specs.declared.Placing.TheVariants as Placing
 use Rattle.inverter.specs.Inverter.{placed}
 use Rattle.row_step.specs.declared.Progress.{Progress}
 use Rattle.row_step.specs.declared.Stepped.{Stepped}

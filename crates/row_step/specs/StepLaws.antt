@@ -21,7 +21,6 @@ use Rattle.inversion.proofs.SurfaceLaws.{pair-number}
 use Rattle.chart.specs.declared.Period.TheVariants.{Free}
 use Rattle.chart.specs.declared.Terms.{Terms}
 use Rattle.chart.specs.declared.Placing.{Placing}
-use Rattle.chart.specs.declared.Placing.TheVariants as Placing
 use Rattle.chart.specs.Chart.{shifted, turned_to}
 use Rattle.inverter.specs.Inverter.{placed}
 use Rattle.inverter.specs.PlacingLaws.{Numbered, placed-sound, placed-by-cases}

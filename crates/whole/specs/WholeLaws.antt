@@ -30,7 +30,6 @@ use Rattle.inverter.specs.Inverter.{on_checked, placed}
 use Rattle.inverter.specs.Preimage.{derived}
 use Rattle.row_step.specs.declared.Progress.{Progress}
 use Rattle.row_step.specs.declared.Stepped.{Stepped}
-use Rattle.row_step.specs.declared.Stepped.TheVariants as Stepped
 use Rattle.row_step.specs.Step.{stepped}
 use Rattle.row.specs.Row.{preceded, and_then, in_turn, marks_of, unless_refused, rowed, misfit, row_into}
 use Rattle.job_format.specs.Format.{Limits, Job}

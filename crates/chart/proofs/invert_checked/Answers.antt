@@ -1,7 +1,5 @@
-use borrow.Author.Tests.{not-true, not-false}
 use mathlib.Core.Path.{sym, ◌∙◌}
 use Rattle.chart.proofs.Steps.{mark-finite, not_sound, found}
-use borrow.Author.Rules.{rules}
 use Rattle.chart.proofs.invert_checked.Goals as goal
 
 pub returns-then-not-sound : goal.returns-then-not-sound

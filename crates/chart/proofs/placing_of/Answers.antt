@@ -1,5 +1,4 @@
 use Rattle.chart.specs.Chart.{placing_of}
-use borrow.Author.Rules.{rules}
 use Rattle.chart.proofs.placing_of.Goals as goal
 
 pub returns-in-Chosen : goal.returns-in-Chosen

@@ -1,7 +1,6 @@
 use Rattle.scaled.specs.Accepted.{by_shape}
 use Rattle.inverter.specs.Inverter.{placed}
 use Rattle.inverter.proofs.Steps.{refused, unrefused, passed}
-use borrow.Author.Rules.{rules}
 use Rattle.inverter.proofs.invert.Goals as goal
 
 pub invert_checked-requires : goal.invert_checked-requires

@@ -1,7 +1,6 @@
 -- `job::job` meets its contract: what is put at the buffer's front is the printout. Assumes nothing.
 use native.Mathlib.Omega.{arith}
 use Rattle.job.proofs.Numbers.{laid-fits, prints-refusal, prints-job, put_front}
-use borrow.Author.Rules.{rules}
 use Rattle.job.proofs.job.Goals as goal
 
 pub print_job-requires : goal.print_job-requires

@@ -1,7 +1,6 @@
 use mathlib.Core.Path.{refl}
 use Rattle.lent.specs.Lent.{fits_inversion}
 use Rattle.lent.proofs.Steps.{both}
-use borrow.Author.Rules.{rules}
 use Rattle.lent.proofs.fits_inversion.Goals as goal
 
 pub returns : goal.returns

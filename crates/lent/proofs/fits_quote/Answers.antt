@@ -1,7 +1,6 @@
 use mathlib.Core.Path.{refl}
 use Rattle.lent.specs.Lent.{fits_quote}
 use Rattle.lent.proofs.Steps.{both}
-use borrow.Author.Rules.{rules}
 use Rattle.lent.proofs.fits_quote.Goals as goal
 
 pub returns : goal.returns

@@ -1,6 +1,5 @@
 use Rattle.lent.specs.Lent.{fits_row}
 use Rattle.lent.proofs.Steps.{both}
-use borrow.Author.Rules.{rules}
 use Rattle.lent.proofs.fits_row.Goals as goal
 
 pub returns : goal.returns

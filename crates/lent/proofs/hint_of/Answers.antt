@@ -1,5 +1,4 @@
 use Rattle.lent.proofs.Steps.{no-hint, a-hint}
-use borrow.Author.Rules.{rules}
 use Rattle.lent.proofs.hint_of.Goals as goal
 
 pub returns-then-hint-ne2 : goal.returns-then-hint-ne2

@@ -1,5 +1,4 @@
 use Rattle.lent.proofs.Steps.{no-period, a-period}
-use borrow.Author.Rules.{rules}
 use Rattle.lent.proofs.period_of.Goals as goal
 
 pub returns-then-period-ne1 : goal.returns-then-period-ne1

@@ -1,6 +1,5 @@
 use Rattle.lent.specs.Lent.{sound_surface}
 use Rattle.lent.proofs.Steps.{both}
-use borrow.Author.Rules.{rules}
 use Rattle.lent.proofs.sound_surface.Goals as goal
 
 pub returns : goal.returns

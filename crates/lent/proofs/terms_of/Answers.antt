@@ -1,5 +1,4 @@
 use Rattle.lent.specs.Lent.{terms_of}
-use borrow.Author.Rules.{rules}
 use Rattle.lent.proofs.terms_of.Goals as goal
 
 pub returns : goal.returns

@@ -1,5 +1,4 @@
 use Rattle.lent.proofs.Steps.{no-window, a-window}
-use borrow.Author.Rules.{rules}
 use Rattle.lent.proofs.window_from.Goals as goal
 
 pub returns-then-window-ne4 : goal.returns-then-window-ne4

@@ -1,11 +1,9 @@
 use mathlib.Core.Path.{ap, ◌∙◌}
-use borrow.Author.Tests.{not-true, not-false}
 use Rattle.lent.specs.FitLaws.{derivative-room}
 use Rattle.laid.specs.Laid.{answer_of_components}
 use Rattle.placing.specs.Boundary.{derives}
 use Rattle.placing.specs.TakenLaws.{derived-taken}
 use Rattle.placing.proofs.Steps.{shape-read, derived-by, took-components, unfit, fits}
-use borrow.Author.Rules.{rules}
 use Rattle.placing.proofs.placing_derivative.Goals as goal
 
 pub returns-then-not-fits_derivative : goal.returns-then-not-fits_derivative

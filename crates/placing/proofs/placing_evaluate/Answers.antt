@@ -1,8 +1,6 @@
-use borrow.Author.Tests.{not-true, not-false}
 use Rattle.lent.specs.FitLaws.{jet-room}
 use Rattle.placing.specs.Boundary.{evaluates}
 use Rattle.placing.proofs.Steps.{shape-read, evaluated-by, jet-unfit, jet-fit}
-use borrow.Author.Rules.{rules}
 use Rattle.placing.proofs.placing_evaluate.Goals as goal
 
 pub returns-then-not-fits_jet : goal.returns-then-not-fits_jet

@@ -1,9 +1,7 @@
-use borrow.Author.Tests.{not-true, not-false}
 use Rattle.inverter.specs.PlacingLaws.{placed-sound}
 use Rattle.lent.specs.FitLaws.{inversion-room}
 use Rattle.placing.specs.Boundary.{inverts}
 use Rattle.placing.proofs.Steps.{shape-read, placed_by, took-placing, inversion-unfit, inversion-fits}
-use borrow.Author.Rules.{rules}
 use Rattle.placing.proofs.placing_invert.Goals as goal
 
 pub returns-then-not-fits_inversion : goal.returns-then-not-fits_inversion

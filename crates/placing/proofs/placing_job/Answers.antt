@@ -1,10 +1,8 @@
 use native.Mathlib.Omega.{arith}
-use borrow.Author.Tests.{not-true, not-false}
 use Rattle.lent.specs.FitLaws.{job-room}
 use Rattle.placing.specs.Boundary.{prints}
 use Rattle.job.specs.PrintLaws.{front-inside, front_length}
 use Rattle.placing.proofs.Steps.{job-unfit, job-fits}
-use borrow.Author.Rules.{rules}
 use Rattle.placing.proofs.placing_job.Goals as goal
 
 pub returns-then-not-fits_job : goal.returns-then-not-fits_job

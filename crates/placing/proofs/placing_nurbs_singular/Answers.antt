@@ -1,8 +1,6 @@
-use borrow.Author.Tests.{not-true, not-false}
 use Rattle.lent.specs.FitLaws.{edges_room}
 use Rattle.placing.specs.Boundary.{tells}
 use Rattle.placing.proofs.Steps.{shape-read, singular-by, edges-unfit, edges_fit}
-use borrow.Author.Rules.{rules}
 use Rattle.placing.proofs.placing_nurbs_singular.Goals as goal
 
 pub returns-then-not-fits_edges : goal.returns-then-not-fits_edges

@@ -1,11 +1,9 @@
 use mathlib.Core.Path.{ap, ◌∙◌}
-use borrow.Author.Tests.{not-true, not-false}
 use Rattle.lent.specs.FitLaws.{pair-room}
 use Rattle.laid.specs.Laid.{answer_of_components}
 use Rattle.placing.specs.Boundary.{locates}
 use Rattle.placing.specs.TakenLaws.{placed-on-taken}
 use Rattle.placing.proofs.Steps.{took-components, unfit, fits}
-use borrow.Author.Rules.{rules}
 use Rattle.placing.proofs.placing_plane.Goals as goal
 
 pub returns-then-not-roomy : goal.returns-then-not-roomy

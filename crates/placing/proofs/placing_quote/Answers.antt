@@ -1,8 +1,6 @@
-use borrow.Author.Tests.{not-true, not-false}
 use Rattle.lent.specs.FitLaws.{quote-room}
 use Rattle.placing.specs.Boundary.{quotes}
 use Rattle.placing.proofs.Steps.{shape-read, quoted-by, quote-unfit, quote-fits}
-use borrow.Author.Rules.{rules}
 use Rattle.placing.proofs.placing_quote.Goals as goal
 
 pub returns-then-not-fits_quote : goal.returns-then-not-fits_quote

@@ -1,8 +1,6 @@
-use borrow.Author.Tests.{not-true, not-false}
 use Rattle.lent.specs.FitLaws.{row_room}
 use Rattle.placing.specs.Boundary.{rows}
 use Rattle.placing.proofs.Steps.{shape-read, rowed-by, row-unfit, row_fits}
-use borrow.Author.Rules.{rules}
 use Rattle.placing.proofs.placing_row.Goals as goal
 
 pub returns-then-not-fits_row : goal.returns-then-not-fits_row

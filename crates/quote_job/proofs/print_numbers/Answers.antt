@@ -5,7 +5,6 @@ use native.Mathlib.Omega.{arith}
 use lib.Seq.{length-take-le}
 use Rattle.quote_job.specs.QuotePrintout.{quote_lines}
 use Rattle.quote_job.proofs.Steps.{put_as, parts_are}
-use borrow.Author.Rules.{rules}
 use Rattle.quote_job.proofs.print_numbers.Goals as goal
 
 pub slice_bounds-print_surface-end : goal.slice_bounds-print_surface-end

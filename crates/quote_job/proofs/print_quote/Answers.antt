@@ -1,7 +1,6 @@
 -- `quote_job::print_quote` meets its contract: what is put at the buffer's front is the quote. Assumes nothing.
 use native.Mathlib.Omega.{arith}
 use Rattle.quote_job.proofs.Steps.{laid-numbers, prints-refusal, prints-lines, put_front}
-use borrow.Author.Rules.{rules}
 use Rattle.quote_job.proofs.print_quote.Goals as goal
 
 pub print_shape-requires : goal.print_shape-requires

@@ -4,7 +4,6 @@ use Prim.Native.Nat.{◌+◌, ◌*◌}
 use native.Mathlib.Omega.{arith}
 use Rattle.quote_job.specs.QuotePrintout.{quote_lines}
 use Rattle.quote_job.proofs.Steps.{put_as, decoded}
-use borrow.Author.Rules.{rules}
 use Rattle.quote_job.proofs.print_shape.Goals as goal
 
 pub returns : goal.returns

@@ -1,6 +1,5 @@
 -- `quote_job::print_surface` meets its contract: the refusal of the checks, or the two quotes. Assumes nothing.
 use Rattle.quote_job.proofs.Steps.{put_as, lines-refused, lines-checked}
-use borrow.Author.Rules.{rules}
 use Rattle.quote_job.proofs.print_surface.Goals as goal
 
 pub returns-in-Refusal : goal.returns-in-Refusal

@@ -1,7 +1,6 @@
 use mathlib.Core.Path.{sym, ◌∙◌}
 use Rattle.scaled.specs.Accepted.{by_shape}
 use Rattle.row.proofs.Steps.{eleven, surface-refused, surface-passed}
-use borrow.Author.Rules.{rules}
 use Rattle.row.proofs.row.Goals as goal
 
 pub returns-then-misfit : goal.returns-then-misfit

@@ -1,6 +1,4 @@
-use borrow.Author.Tests.{not-true, not-false}
 use Rattle.row.proofs.Steps.{seven, sound}
-use borrow.Author.Rules.{rules}
 use Rattle.row.proofs.row_checked.Goals as goal
 
 pub returns-then-not-sound_terms : goal.returns-then-not-sound_terms

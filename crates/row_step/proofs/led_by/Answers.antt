@@ -1,4 +1,3 @@
-use borrow.Author.Rules.{rules}
 use Rattle.row_step.proofs.Steps.{leads, leads-none}
 use Rattle.row_step.proofs.led_by.Goals as goal
 

@@ -2,7 +2,6 @@
 use mathlib.Core.Path.{ap}
 use Rattle.chart.specs.Chart.{taken_of}
 use Rattle.row_step.proofs.Steps.{took, step-refuses, step-places}
-use borrow.Author.Rules.{rules}
 use Rattle.row_step.proofs.step.Goals as goal
 
 pub invert_checked-requires : goal.invert_checked-requires

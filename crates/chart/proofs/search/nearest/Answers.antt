@@ -1,5 +1,4 @@
 use Rattle.chart.specs.Chart.{nearest_to}
-use borrow.Author.Rules.{rules}
 use Rattle.chart.proofs.search.nearest.Goals as goal
 
 pub returns : goal.returns

@@ -1,5 +1,4 @@
 use Rattle.chart.specs.Chart.{shifted}
-use borrow.Author.Rules.{rules}
 use Rattle.chart.proofs.search.shift.Goals as goal
 
 pub returns-in-Free : goal.returns-in-Free

@@ -1,5 +1,4 @@
 use Rattle.chart.specs.Chart.{sound_hint}
-use borrow.Author.Rules.{rules}
 use Rattle.chart.proofs.search.sound_hint.Goals as goal
 
 pub returns-in-Nothing : goal.returns-in-Nothing

@@ -1,5 +1,4 @@
 use Rattle.chart.specs.Chart.{sound_period}
-use borrow.Author.Rules.{rules}
 use Rattle.chart.proofs.search.sound_period.Goals as goal
 
 pub returns-in-Free : goal.returns-in-Free

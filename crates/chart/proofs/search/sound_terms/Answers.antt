@@ -1,5 +1,4 @@
 use Rattle.chart.specs.Chart.{sound_terms}
-use borrow.Author.Rules.{rules}
 use Rattle.chart.proofs.search.sound_terms.Goals as goal
 
 pub returns : goal.returns

@@ -1,4 +1,3 @@
-use borrow.Author.Rules.{rules}
 use Rattle.chart.proofs.search.turned.Goals as goal
 
 pub returns : goal.returns

@@ -1,5 +1,4 @@
 use Rattle.chart.specs.Chart.{turned_to}
-use borrow.Author.Rules.{rules}
 use Rattle.chart.proofs.search.turned_to.Goals as goal
 
 pub returns-in-Nothing : goal.returns-in-Nothing

@@ -1,7 +1,5 @@
-use borrow.Author.Tests.{not-true, not-false}
 use Rattle.inverter.specs.Plane.{placed_on}
 use Rattle.inverter.proofs.Steps.{unsound, unpaid, paid}
-use borrow.Author.Rules.{rules}
 use Rattle.inverter.proofs.plane.invert_plane.Goals as goal
 
 pub returns-then-not-sound_plane : goal.returns-then-not-sound_plane

@@ -1,5 +1,4 @@
 use Rattle.inverter.specs.Plane.{local_of}
-use borrow.Author.Rules.{rules}
 use Rattle.inverter.proofs.plane.local.Goals as goal
 
 pub returns : goal.returns

@@ -1,5 +1,4 @@
 use Rattle.inverter.specs.Plane.{sound_plane}
-use borrow.Author.Rules.{rules}
 use Rattle.inverter.proofs.plane.sound_plane.Goals as goal
 
 pub returns : goal.returns

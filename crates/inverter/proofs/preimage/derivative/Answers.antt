@@ -1,9 +1,7 @@
 use mathlib.Core.Path.{sym, ◌∙◌}
-use borrow.Author.Tests.{not-true, not-false}
 use Rattle.surface.specs.SurfaceLaws.{checked-scale}
 use Rattle.inverter.specs.Preimage.{derived}
 use Rattle.inverter.proofs.Steps.{refused, passed, unsound, unpaid, paid}
-use borrow.Author.Rules.{rules}
 use Rattle.inverter.proofs.preimage.derivative.Goals as goal
 
 pub returns-then-not-finite_vector : goal.returns-then-not-finite_vector

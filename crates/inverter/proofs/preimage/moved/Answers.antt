@@ -1,5 +1,4 @@
 use Rattle.inverter.specs.Preimage.{moved}
-use borrow.Author.Rules.{rules}
 use Rattle.inverter.proofs.preimage.moved.Goals as goal
 
 pub returns : goal.returns

@@ -6,7 +6,6 @@ use Rattle.patch.specs.declared.Evaluated.TheVariants.{Found, Refused}
 use Rattle.inverter.specs.declared.Components.{Components}
 use Rattle.inverter.specs.declared.Components.TheVariants.{Refusal}
 use Rattle.inverter.specs.Preimage.{moved, moved_from}
-use borrow.Author.Rules.{rules}
 use Rattle.inverter.proofs.preimage.moved_at.Goals as goal
 
 module _ (d : Vector3) {e f : Evaluated} (p : e ≡ f) where

@@ -1,9 +1,7 @@
 -- The definition's own tests.
 use mathlib.Core.Path.{◌≡◌}
 use mathlib.Core.Bool.{Bool, true, false}
-use mathlib.Core.Logic.{⊎_elim}
 use lib.Ieee.{Float, le}
-use borrow.Author.Rules.{rules}
 use Rattle.float64.specs.Operators.{◌⊖◌, ◌⊗◌, ◌⊘◌, 1e-24}
 use Rattle.float64.specs.Functions.{is_finite}
 use Rattle.inverter.specs.declared.Components.TheVariants.{Along}

@@ -1,15 +1,13 @@
 -- `job::marks::print_marks` meets its contract. The invariant: whatever puts the lines from mark number i on puts all. Assumes nothing.
-use mathlib.Core.Path.{◌≡◌, refl, sym, ◌∙◌}
+use mathlib.Core.Path.{◌≡◌}
 use Prim.Native.Nat.{◌+◌, ◌-◌, ◌*◌, ◌≤◌}
-use native.Mathlib.Omega.{arith}
 use lib.ListN.{length}
 use Rattle.surface.specs.Surface.{surface}
 use Rattle.row.specs.Row.{in_turn}
 use Rattle.row_step.specs.StepLaws.{Unshifted}
 use Rattle.job_format.specs.Offsets.{marks_at}
 use Rattle.job.specs.Printout.{row_lines}
-use Rattle.job.proofs.Steps.{printable, Rest, put_as, rest_goes, rest-stops, rest_over, lines_from, lines-begin, lines-over, lines-placed, lines-refused}
-use borrow.Author.Rules.{rules}
+use Rattle.job.proofs.Steps.{Rest, lines_from}
 use Rattle.job.proofs.marks.print_marks.Given as goal
 
 abbrev pub invariant-loop-i : goal.invariant-loop-i

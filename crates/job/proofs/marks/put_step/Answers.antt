@@ -5,7 +5,6 @@ use Rattle.newton.specs.EndLaws.{ending-digit}
 use Rattle.job.specs.Turns.{step_line}
 use Prim.Native.Nat.{◌<◌}
 use native.Mathlib.Omega.{arith}
-use borrow.Author.Rules.{rules}
 use Rattle.job.proofs.marks.put_step.Goals as goal
 
 one-digit : (how : Ending) → ending_number how < 10

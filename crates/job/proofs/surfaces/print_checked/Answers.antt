@@ -1,9 +1,7 @@
 -- `job::surfaces::print_checked` meets its contract: refusal 7, or the marks in turn. Assumes nothing.
 use mathlib.Core.Path.{sym}
-use borrow.Author.Tests.{not-true, not-false}
 use Rattle.scaled.specs.Accepted.{not-refused}
 use Rattle.job.proofs.Steps.{put_as, lines-seven, lines-sound}
-use borrow.Author.Rules.{rules}
 use Rattle.job.proofs.surfaces.print_checked.Goals as goal
 
 pub returns-then-not-sound_terms : goal.returns-then-not-sound_terms

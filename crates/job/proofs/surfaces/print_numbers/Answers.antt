@@ -6,7 +6,6 @@ use lib.Seq.{length-take-le}
 use Rattle.digits.specs.TextLaws.{put_then}
 use Rattle.job.proofs.Steps.{put_as}
 use Rattle.job.proofs.Numbers.{job_is, queue-fits}
-use borrow.Author.Rules.{rules}
 use Rattle.job.proofs.surfaces.print_numbers.Goals as goal
 
 pub slice_bounds-print_row-end : goal.slice_bounds-print_row-end

@@ -2,7 +2,6 @@
 use mathlib.Core.Path.{sym}
 use Rattle.scaled.specs.Accepted.{by_shape}
 use Rattle.job.proofs.Steps.{put_as, lines-refused-surface, lines-by-shape}
-use borrow.Author.Rules.{rules}
 use Rattle.job.proofs.surfaces.print_row.Goals as goal
 
 pub print_checked-requires : goal.print_checked-requires

@@ -1,6 +1,5 @@
 -- `job::surfaces::queue_at` meets its contract: the terms are read at their places. Assumes nothing.
 use Rattle.job_format.specs.Offsets.{terms_at}
-use borrow.Author.Rules.{rules}
 use Rattle.job.proofs.surfaces.queue_at.Goals as goal
 
 pub returns : goal.returns

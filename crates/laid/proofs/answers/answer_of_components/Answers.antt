@@ -1,5 +1,4 @@
 use Rattle.laid.specs.Laid.{answer_of_components}
-use borrow.Author.Rules.{rules}
 use Rattle.laid.proofs.answers.answer_of_components.Goals as goal
 
 pub returns-in-Along : goal.returns-in-Along

@@ -1,5 +1,4 @@
 use Rattle.laid.specs.Laid.{answer_of_placing}
-use borrow.Author.Rules.{rules}
 use Rattle.laid.proofs.answers.answer_of_placing.Goals as goal
 
 pub returns-in-Pair : goal.returns-in-Pair

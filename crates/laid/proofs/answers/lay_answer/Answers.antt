@@ -1,5 +1,4 @@
 use Rattle.laid.proofs.Steps.{laid-refusal, laid-pair}
-use borrow.Author.Rules.{rules}
 use Rattle.laid.proofs.answers.lay_answer.Goals as goal
 
 pub overflow_sub-budget : goal.overflow_sub-budget

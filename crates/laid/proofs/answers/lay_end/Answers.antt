@@ -1,5 +1,4 @@
 use Rattle.laid.proofs.Steps.{end_kept, end-told}
-use borrow.Author.Rules.{rules}
 use Rattle.laid.proofs.answers.lay_end.Goals as goal
 
 pub returns-in_default : goal.returns-in_default

@@ -1,6 +1,5 @@
 use native.Mathlib.Omega.{arith}
 use Rattle.laid.proofs.Steps.{ninth, jet-refused, jet-found}
-use borrow.Author.Rules.{rules}
 use Rattle.laid.proofs.answers.lay_jet.Goals as goal
 
 pub bounds-jet-1 : goal.bounds-jet-1

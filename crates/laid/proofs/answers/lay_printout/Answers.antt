@@ -1,5 +1,4 @@
 use Rattle.laid.proofs.Steps.{laid-text}
-use borrow.Author.Rules.{rules}
 use Rattle.laid.proofs.answers.lay_printout.Goals as goal
 
 pub returns : goal.returns

@@ -1,5 +1,4 @@
 use Rattle.laid.proofs.Steps.{quote-refused, quote-laid}
-use borrow.Author.Rules.{rules}
 use Rattle.laid.proofs.answers.lay_quote.Goals as goal
 
 pub returns-in-Refusal : goal.returns-in-Refusal

@@ -1,5 +1,4 @@
 use Rattle.laid.specs.Laid.{flag_of}
-use borrow.Author.Rules.{rules}
 use Rattle.laid.proofs.ends.flag_of.Goals as goal
 
 pub returns-in-Open : goal.returns-in-Open

@@ -1,5 +1,4 @@
 use Rattle.laid.proofs.EndSteps.{open-edge, in_one, in_two, in_three, in_four, five}
-use borrow.Author.Rules.{rules}
 use Rattle.laid.proofs.ends.lay_edge.Goals as goal
 
 pub returns-in_default : goal.returns-in_default

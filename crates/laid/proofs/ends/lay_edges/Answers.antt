@@ -1,5 +1,4 @@
 use Rattle.laid.proofs.EndSteps.{told-refusal, told-found}
-use borrow.Author.Rules.{rules}
 use Rattle.laid.proofs.ends.lay_edges.Goals as goal
 
 pub returns-in-Refusal : goal.returns-in-Refusal

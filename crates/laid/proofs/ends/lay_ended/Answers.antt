@@ -1,5 +1,4 @@
 use Rattle.laid.proofs.EndSteps.{ended-placed, ended-refused}
-use borrow.Author.Rules.{rules}
 use Rattle.laid.proofs.ends.lay_ended.Goals as goal
 
 pub returns-in-Placed : goal.returns-in-Placed

@@ -1,5 +1,4 @@
 use Rattle.laid.proofs.EndSteps.{second, third, four-flags}
-use borrow.Author.Rules.{rules}
 use Rattle.laid.proofs.ends.lay_flags.Goals as goal
 
 pub bounds-collapsed-1 : goal.bounds-collapsed-1

@@ -1,5 +1,4 @@
 use Rattle.laid.proofs.EndSteps.{four-edges}
-use borrow.Author.Rules.{rules}
 use Rattle.laid.proofs.ends.lay_numbers.Goals as goal
 
 pub returns : goal.returns

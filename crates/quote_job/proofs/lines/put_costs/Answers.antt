@@ -2,7 +2,6 @@
 use Rattle.digits.specs.Text.{ascii}
 use Rattle.digits.specs.TextLaws.{put_then}
 use Rattle.quote_job.specs.QuotePrintout.{cost_lines}
-use borrow.Author.Rules.{rules}
 use Rattle.quote_job.proofs.lines.put_costs.Goals as goal
 
 pub returns : goal.returns

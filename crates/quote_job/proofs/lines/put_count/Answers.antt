@@ -3,7 +3,6 @@ use native.Mathlib.Omega.{arith}
 use Rattle.digits.specs.Text.{ascii}
 use Rattle.digits.specs.TextLaws.{put_then}
 use Rattle.quote_job.specs.QuotePrintout.{count_line}
-use borrow.Author.Rules.{rules}
 use Rattle.quote_job.proofs.lines.put_count.Goals as goal
 
 pub returns : goal.returns

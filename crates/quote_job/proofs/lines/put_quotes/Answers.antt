@@ -1,6 +1,5 @@
 -- `quote_job::lines::put_quotes` meets its contract: a clause of the definition for each variant. Assumes nothing.
 use Rattle.quote_job.proofs.Steps.{put_as, first-refused, first-quoted}
-use borrow.Author.Rules.{rules}
 use Rattle.quote_job.proofs.lines.put_quotes.Goals as goal
 
 pub returns-in-Refusal : goal.returns-in-Refusal

@@ -1,6 +1,5 @@
 -- What `step` says, with a pair at one front, and its end and origin at the other.
 use mathlib.Core.Path.{sym, ◌∙◌}
-use borrow.Author.Rules.{rules}
 use Rattle.row.specs.Row.{u_of, v_of, end_of, origin_of}
 use Rattle.row.proofs.Steps.{stays, fronts}
 use Rattle.row.proofs.marks.place_mark.Goals as goal

@@ -1,13 +1,8 @@
 -- The invariant: the row of all marks is that of the marks left, after what the buffers hold.
-use mathlib.Core.Path.{◌≡◌, refl, ◌∙◌}
-use Prim.Native.Nat.{◌-◌, ◌*◌, ◌≤◌}
+use mathlib.Core.Path.{refl, ◌∙◌}
 use native.Mathlib.Omega.{arith}
-use lib.ListN.{length}
-use Rattle.surface.specs.Surface.{surface}
-use Rattle.row.specs.Row.{marks_of, in_turn}
 use Rattle.row.specs.RowLaws.{fits}
-use Rattle.row.proofs.Steps.{Stands, rest_from, begins, over, goes, stops, kept-long}
-use borrow.Author.Rules.{rules}
+use Rattle.row.proofs.Steps.{begins, over, goes, stops, kept-long}
 use Rattle.row.proofs.marks.place_marks.Goals as goal
 
 pub loop-i-init : goal.loop-i-init

@@ -1,13 +1,10 @@
 -- The invariant: the row of all marks is that of the marks left, after what the buffers hold.
-use mathlib.Core.Path.{◌≡◌, refl, ◌∙◌}
+use mathlib.Core.Path.{◌≡◌}
 use Prim.Native.Nat.{◌-◌, ◌*◌, ◌≤◌}
-use native.Mathlib.Omega.{arith}
 use lib.ListN.{length}
 use Rattle.surface.specs.Surface.{surface}
 use Rattle.row.specs.Row.{marks_of, in_turn}
-use Rattle.row.specs.RowLaws.{fits}
-use Rattle.row.proofs.Steps.{Stands, rest_from, begins, over, goes, stops, kept-long}
-use borrow.Author.Rules.{rules}
+use Rattle.row.proofs.Steps.{Stands, rest_from}
 use Rattle.row.proofs.marks.place_marks.Given as goal
 
 abbrev pub invariant-loop-i : goal.invariant-loop-i
