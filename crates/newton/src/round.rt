@@ -15,6 +15,7 @@ use scaled::{Accepted, scaled_jet};
 use vector3::{Vector3, dot, sub};
 
 // The negation comes before the division.
+#[tactic(auto, unfolding(crate::specs::Run::solve))]
 fn solve(a: f64, b: f64, c: f64, g0: f64, g1: f64) -> Step
     ensures { result ≡ Run.solve a b c g0 g1 }
 {

@@ -80,7 +80,8 @@ pub fn walk(
             };
             weighed = column;
             let square = square_of(mark, point);
-            if !(shortlist.limit <= square) {
+            let beyond = shortlist.limit <= square;
+            if !beyond {
                 shortlist = keep(shortlist.starts, square, u, v);
             }
         }

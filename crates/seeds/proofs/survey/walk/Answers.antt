@@ -13,7 +13,7 @@ use Rattle.shortlist.proofs.Places.{left_out, keepable, put_in}
 use Rattle.seeds.proofs.TableSteps.{none-weighed, shown, not-shown}
 use Rattle.seeds.proofs.WalkSteps.{walk_begins, row-begins, grid-ends, row_ends, row-spent, row-refused, row_goes}
 use Rattle.seeds.proofs.survey.walk.Goals as goal
-use Rattle.seeds.proofs.survey.walk.Goals.{then-not-shortlist-square, else-not-shortlist-square}
+use Rattle.seeds.proofs.survey.walk.Goals.{then-not-beyond, else-not-beyond}
 
 -- ---- the needs
 pub fill_table-requires : goal.fill_table-requires
@@ -81,9 +81,9 @@ loop-j-preserved c =
     let at = paid in
     let p = shown _ c.point_at.ensures.value m.in-At.is in
     let e = m.square_of-square.ensures in (
-      row_goes at.loop-j.invariant.0 at.loop-j-test.true paid.if-taken-budget.false p.jet p.found p.point (elim c.if-not-shortlist-square.branch [
-        | then-not-shortlist-square w ↦ rw w.shortlist-is (put_in _ _ e takeable _ _ w.keep-shortlist.ensures)
-        | else-not-shortlist-square w ↦ rw w.shortlist-is (left_out _ _ e takeable _ _ w.if-not-shortlist-square.false)
+      row_goes at.loop-j.invariant.0 at.loop-j-test.true paid.if-taken-budget.false p.jet p.found p.point (elim c.if-not-beyond.branch [
+        | then-not-beyond w ↦ rw w.shortlist-is (put_in _ _ e takeable _ _ w.keep-shortlist.ensures)
+        | else-not-beyond w ↦ rw w.shortlist-is (left_out _ _ e takeable _ _ w.if-not-beyond.false)
       ]),
       c.point_at.ensures.net_for,
     )
