@@ -2,13 +2,13 @@
 -- Why: in units of the smallest double the exact difference D lies between an L and an H of at most 5 binary digits, zeros after them not counted, with 7 * H ≤ 8 * L. Rounding keeps the order, and leaves
 -- L, H and 8 * L as they are. So the rounded difference is at most H, its j-fold at most 8 * L, and the eighth of that at most L, and D. So x and that eighth come to y at most, and the last rounding keeps that too.
 -- Assumes nothing.
-use Rattle.std.specs.Prelude.{◌≡◌, ◌⊎◌, Bool, not, ◌&&◌, ◌||◌, cond, ℕ, suc, ◌+◌, ◌-◌, ◌*◌, ◌/◌, ◌^◌, ◌≤◌, ◌<◌, ℤ, T, leb, eqb, Float}
+use Rattle.std.specs.Prelude.{◌≡◌, ◌⊎◌, Bool, not, ◌&&◌, ◌||◌, cond, ℕ, suc, ◌+◌, ◌-◌, ◌*◌, ◌/◌, ◌^◌, ◌≤◌, ◌<◌, ℤ, T, leb, Float}
 use Rattle.std.proofs.Math.Path.{refl}
-use Rattle.std.proofs.Common.{sym, ap, ◌∙◌, subst, inl, inr, true≢false, zero-le, le_trans, le_of_eq, lt_of_lt_of_le, eq-or-lt_of_le, eq-zero-or-pos, zero-mul, mul-one, suc-mul, add-mul, mul_comm, mul_assoc, mul_right_comm, mul-pos, mul-le-mul, mul-le-mul_right, le_of_mul-le-mul_right, lt_of_mul-lt-mul_right, mul-lt-mul_of_pos_right, le-div_iff_mul-le, div-mul-le_self, arith, lit<, pow-add, pow_pos, pow_mono, ltb-true, ltb-false, eqb-true, leb-true, leb-false, lt-ltb, le-ltb, eq-eqb}
-use Rattle.std.proofs.Math.Bool.{true, false, or-true}
-use Rattle.std.specs.Bool.{beq}
+use Rattle.std.proofs.Common.{sym, ap, ◌∙◌, subst, inl, inr, true≢false, zero-le, le_trans, le_of_eq, lt_of_lt_of_le, eq-or-lt_of_le, zero-mul, mul-one, suc-mul, add-mul, mul_comm, mul_assoc, mul_right_comm, mul-pos, mul-le-mul, mul-le-mul_right, le_of_mul-le-mul_right, lt_of_mul-lt-mul_right, mul-lt-mul_of_pos_right, le-div_iff_mul-le, div-mul-le_self, arith, lit<, pow-add, pow_pos, pow_mono, ltb-true, ltb-false, leb-true, leb-false, lt-ltb, le-ltb}
+use Rattle.std.proofs.Math.Bool.{true, false}
 use Rattle.std.proofs.lemmas.Bool.{false≢true}
-use Rattle.std.proofs.Math.Nat.{le_of_lt, mul-mul-mul_comm, mul-sub, lt-div-mul-add}
+use Rattle.std.proofs.lemmas.Bool.Decides.{nat_tests}
+use Rattle.std.proofs.Math.Nat.{le_of_lt, mul-mul-mul_comm, lt-div-mul-add}
 use Rattle.std.proofs.Math.Dec.{ltb}
 use Rattle.std.specs.Float.{nan, inf, fin}
 use Rattle.std.specs.Float.Ieee.{binary64, up, down, size, odd, units, round, unlike, neg, sum, add, sub, mul, div, below, level, le, of_bits, fits}
@@ -22,7 +22,7 @@ use Rattle.std.specs.Float.Ieee.Scale.{grid, round_same, round_val}
 use Rattle.float64.specs.Operators.{◌⊕◌, ◌⊖◌, ◌⊗◌, ◌⊘◌, 8·, of_nat}
 use Rattle.float64.specs.Functions.{is_finite, units_of}
 use Rattle.float64.specs.Order.{agree}
-use Rattle.float64.specs.Units.{Double, double, units-shifted, own-units}
+use Rattle.float64.specs.Units.{sub-mul, Double, double, units-shifted, own-units}
 
 -- ---- the order, as one of sizes with signs
 
@@ -33,41 +33,19 @@ AtMost false a true b = a + b ≤ 0
 AtMost true a false b = 0 ≤ a + b
 AtMost true a true b = b ≤ a
 
-le-tests : (a b : ℕ) → a ≤ b → (ltb a b || (eqb a b && true)) ≡ true
-le-tests a b h = elim (eq-or-lt_of_le h) [ inl e ↦ rw (eq-eqb a b e) (or-true (ltb a b)) | inr l ↦ rw (lt-ltb a b l) ]
-
-tests-le : (a b : ℕ) → (ltb a b || (eqb a b && true)) ≡ true → a ≤ b
-tests-le a b = by (ltb a b) (eqb a b) (ltb-true a b) (eqb-true a b)
-  where
-    by : (p q : Bool) → (p ≡ true → a < b) → (q ≡ true → a ≡ b) → (p || (q && true)) ≡ true → a ≤ b
-    by true q f g h = le_of_lt (f refl)
-    by false true f g h = le_of_eq (g refl)
-    by false false f g h = absurd (false≢true h)
-
-swapped : (a b : ℕ) → eqb a b ≡ eqb b a
-swapped a b = agree _ _ (λ h. eq-eqb b a (sym (eqb-true a b h))) (λ h. eq-eqb a b (sym (eqb-true b a h)))
-
 at-most-tests : (s : Bool) (a : ℕ) (t : Bool) (b : ℕ) → AtMost s a t b → (below s a t b || level s a t b) ≡ true
 unfolding AtMost
-at-most-tests false a false b h = le-tests a b h
-at-most-tests false a true b h = rw (eq-eqb a b (omega arith), eq-eqb a 0 (omega arith))
-at-most-tests true a false b h = elim (eq-zero-or-pos (a + b)) [
-  | inl z ↦ rw (eq-eqb a b (omega arith), eq-eqb a 0 (omega arith)) (or-true (ltb 0 (a + b)))
-  | inr p ↦ rw (lt-ltb 0 (a + b) p)
-]
-at-most-tests true a true b h = rw (swapped a b) (le-tests b a h)
+at-most-tests false a false b h = grind (arith, nat_tests)
+at-most-tests false a true b h = grind (arith, nat_tests)
+at-most-tests true a false b h = grind (arith, nat_tests)
+at-most-tests true a true b h = grind (arith, nat_tests)
 
 tests-at-most : (s : Bool) (a : ℕ) (t : Bool) (b : ℕ) → (below s a t b || level s a t b) ≡ true → AtMost s a t b
 unfolding AtMost
-tests-at-most false a false b h = tests-le a b h
-tests-at-most false a true b h = by (eqb a b) (eqb a 0) (eqb-true a b) (eqb-true a 0) h
-  where
-    by : (p q : Bool) → (p ≡ true → a ≡ b) → (q ≡ true → a ≡ 0) → (p && q) ≡ true → a + b ≤ 0
-    by true true f g h = omega (arith, f refl, g refl)
-    by true false f g h = absurd (false≢true h)
-    by false q f g h = absurd (false≢true h)
-tests-at-most true a false b h = zero-le
-tests-at-most true a true b h = tests-le b a (rw (swapped a b) at h)
+tests-at-most false a false b h = grind (arith, nat_tests)
+tests-at-most false a true b h = grind (arith, nat_tests)
+tests-at-most true a false b h = grind (arith, nat_tests)
+tests-at-most true a true b h = grind (arith, nat_tests)
 
 -- sizes over another denominator
 rescaled : (s : Bool) (a : ℕ) (t : Bool) (b A B c z : ℕ) → 0 < c → A * c ≡ a * z → B * c ≡ b * z → AtMost s a t b → AtMost s A t B
@@ -115,9 +93,6 @@ ltb-rescaled : (A B a b c z : ℕ) → 0 < c → 0 < z → A * c ≡ a * z → B
 ltb-rescaled A B a b c z C Z p q =
     agree (ltb A B) (ltb a b) (λ h. lt-ltb a b (lt_of_mul-lt-mul_right z (rw (← p, ← q) (mul-lt-mul_of_pos_right (ltb-true A B h) C))))
     (λ h. lt-ltb A B (lt_of_mul-lt-mul_right c (rw (p, q) (mul-lt-mul_of_pos_right (ltb-true a b h) Z))))
-
-sub-mul : (m n k : ℕ) → (m - n) * k ≡ m * k - n * k
-sub-mul m n k = mul_comm (m - n) k ∙ mul-sub k m n ∙ rw (mul_comm k m, mul_comm k n)
 
 pub sum-rescaled : (s : Bool) (A : ℕ) (t : Bool) (B a b c z : ℕ) → 0 < c → 0 < z → A * c ≡ a * z → B * c ≡ b * z → sum binary64 s A t B z ≡ sum binary64 s a t b c
 unfolding sum
@@ -340,15 +315,11 @@ sum-between true true a b r p q A B h l v f e = elim (lt-or-le r a) [
 
 -- ---- what is finite has finite operands
 
-cond-infinite : (t : Bool) (x y : Float) → is_finite x ≡ false → is_finite y ≡ false → is_finite (cond t x y) ≡ true → ⊥
-cond-infinite true x y p q h = true≢false (sym h ∙ p)
-cond-infinite false x y p q h = true≢false (sym h ∙ q)
-
 add-finite : (x y : Float) → is_finite (x ⊕ y) ≡ true → (is_finite x ≡ true) × (is_finite y ≡ true)
 unfolding add is_finite
 add-finite nan y h = absurd (false≢true h)
 add-finite (inf s) nan h = absurd (false≢true h)
-add-finite (inf s) (inf t) h = absurd (cond-infinite (beq s t) (inf s) nan refl refl h)
+add-finite (inf s) (inf t) h = grind arith
 add-finite (inf s) (fin t n d) h = absurd (false≢true h)
 add-finite (fin s m e) nan h = absurd (false≢true h)
 add-finite (fin s m e) (inf t) h = absurd (false≢true h)
@@ -363,7 +334,7 @@ unfolding mul is_finite
 times-finite nan y h = absurd (false≢true h)
 times-finite (inf s) nan h = absurd (false≢true h)
 times-finite (inf s) (inf t) h = absurd (false≢true h)
-times-finite (inf s) (fin t n d) h = absurd (cond-infinite (eqb n 0) nan (inf (unlike s t)) refl refl h)
+times-finite (inf s) (fin t n d) h = grind arith
 times-finite (fin s m e) y h = refl
 
 eighth-finite : (x : Float) → is_finite (x ⊘ 8·) ≡ true → is_finite x ≡ true

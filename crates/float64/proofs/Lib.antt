@@ -1,9 +1,5 @@
-pub mod Small
+pub mod Methods
+pub mod SquareRoot
 pub mod RoundLaws
 pub mod Patterns
-pub mod Rounded
-pub mod Digits
-pub mod Normal
-pub mod RootOfBits
-pub mod Guess
 pub mod RemainderOfBits

@@ -1,21 +1,14 @@
 -- A finite double and its bit pattern, in whole numbers: what a pattern without its sign counts of the smallest double, 2 ^ -1074. Assumes nothing.
-use mathlib.Core.Path.{◌≡◌, refl, sym, ap, ◌∙◌, subst}
-use mathlib.Core.Logic.{◌⊎◌, inl, inr}
-use mathlib.Core.Bool.{Bool, true, false, not, cond}
-use Prim.Native.Nat.{ℕ, zero, suc, ◌+◌, ◌-◌, ◌*◌, ◌/◌, ◌%◌, ◌^◌, ◌≤◌, ◌<◌}
-use native.Mathlib.Nat.{lt_of_not-le, lt_irrefl, lt_of_lt_of_le, lt_of_le_of_lt, eq-zero-or-pos, eq-or-lt_of_le, pow-suc, add_assoc, mul_assoc, zero-add, zero-mul, mul-div_cancel, mul-le-mul_right, le_of_mul-le-mul_right}
-use native.Mathlib.Omega.{arith}
-use lib.IntN.{ℤ}
-use lib.Dec.{T, lit<, lit≤}
-use lib.Pow.{pow-add, pow_pos, pow_mono, shl_lt}
-use lib.Ieee.{Float, nan, inf, fin, binary64, down, size, fits, is_nan, nan_bits, to_bits, of_bits}
-use lib.Ieee.Digits.{size-lt, size-le, size_reaches, back}
-use lib.Ieee.Fits.{kept-lt, down_pos}
-use lib.Ieee.Bits.{of_bits-to_bits, to_bits-of_bits, to_bits-lt, of_bits-fits, nan_bits_is, nan_bits_above}
-use borrow.Author.Tests.{le-ltb}
-use lib.Ieee.Exact.{HasValue}
+use Rattle.std.specs.Prelude.{◌≡◌, refl, ◌⊎◌, Bool, true, false, not, cond, ℕ, zero, suc, ◌+◌, ◌-◌, ◌*◌, ◌/◌, ◌%◌, ◌^◌, ◌≤◌, ◌<◌, ℤ, T, ltb, Float}
+use Rattle.std.proofs.Common.{sym, ap, subst, ◌∙◌, inl, inr, lt_of_le_of_lt, eq-zero-or-pos, mul_assoc, zero-add, zero-mul, mul-div_cancel, mul-le-mul_right, le_of_mul-le-mul_right, arith, pow-add, pow_pos, shl_lt, ltb→lt, nltb→le}
+use Rattle.std.specs.Float.{nan, inf, fin, binary64}
+use Rattle.std.specs.Float.Ieee.{down, size, fits, to_bits}
+use Rattle.std.specs.Float.Ieee.Digits.{size-lt, size-le, size_reaches, back}
+use Rattle.std.specs.Float.Ieee.Fits.{kept-lt, down_pos}
+use Rattle.std.specs.Float.Ieee.Exact.{HasValue}
 use Rattle.float64.specs.Functions.{units_of}
-use Rattle.float64.specs.Units.{Double, double, units-shifted, units_under}
+use Rattle.float64.specs.Units.{Double, exponent-lt, double, units-shifted, units_under}
+use Rattle.float64.specs.Patterns.{units_of_bits}
 
 -- The pattern b, without a sign, is that of n of the smallest doubles: the digits c, with k zeros after them. The leading digit adds one to the exponent's field.
 pub record Written (n b : ℕ) : Type 0 where
@@ -26,14 +19,6 @@ pub record Written (n b : ℕ) : Type 0 where
   pub small : c < 2 ^ 53
   pub leading : (2 ^ 52 ≤ c) ⊎ (k ≡ 0)
 
--- the exponent's field of a pattern is above 0 where the leading digit is there
-pub normal : {n b : ℕ} (w : Written n b) → 0 < b / 2 ^ 52 → (2 ^ 52 ≤ w.c) × (suc w.k ≡ b / 2 ^ 52)
-normal {n} {b} w h = go w.leading
-  where
-    go : (2 ^ 52 ≤ w.c) ⊎ (w.k ≡ 0) → (2 ^ 52 ≤ w.c) × (suc w.k ≡ b / 2 ^ 52)
-    go (inl l) = (l, omega (arith, w.pattern, w.small))
-    go (inr z) = (omega (arith, w.pattern), omega (arith, w.pattern, w.small))
-
 -- only 0 has the pattern 0
 pub above-nothing : {n b : ℕ} → 0 < n → Written n b → 0 < b
 above-nothing {n} {b} h w = go w.c refl
@@ -42,29 +27,11 @@ above-nothing {n} {b} h w = go w.c refl
     go zero e = absurd (omega (arith, w.number ∙ ap (λ (x : ℕ). x * 2 ^ w.k) e ∙ zero-mul (2 ^ w.k)))
     go (suc c) e = omega (arith, w.pattern)
 
--- digits that a carry made 2 ^ 53 are 2 ^ 52 with one more zero
-pub carried : (c k : ℕ) → c ≤ 2 ^ 53 → (2 ^ 52 ≤ c) ⊎ (k ≡ 0) → Written (c * 2 ^ k) (k * 2 ^ 52 + c)
-carried c k h l = go (eq-or-lt_of_le h)
-  where
-    go : (c ≡ 2 ^ 53) ⊎ (c < 2 ^ 53) → Written (c * 2 ^ k) (k * 2 ^ 52 + c)
-    go (inl e) = record {
-      c = 2 ^ 52;
-      k = suc k;
-      number = omega (arith, ap (λ (x : ℕ). x * 2 ^ k) e, pow-suc 2 k);
-      pattern = omega arith;
-      small = lit< tt;
-      leading = inl (lit≤ tt);
-    }
-    go (inr s) = record { c = c; k = k; number = refl; pattern = refl; small = s; leading = l }
-
 -- ---- a number has one pattern
 
 -- as `to_bits` writes it: the 53 leading digits of n, and in the field how many follow them
 abbrev pub pattern_of : ℕ → ℕ
 pattern_of n = let k = size n - 53 in k * 2 ^ 52 + n / 2 ^ k
-
-pub pow_lt_back : (i p : ℕ) → 2 ^ i < 2 ^ p → i < p
-pow_lt_back i p h = lt_of_not-le (λ (g : p ≤ i). lt_irrefl (2 ^ i) (lt_of_lt_of_le h (pow_mono g)))
 
 -- the zeros after 53 digits are as many as the number's digits beyond 53
 dropped : (c k : ℕ) → c < 2 ^ 53 → (2 ^ 52 ≤ c) ⊎ (k ≡ 0) → size (c * 2 ^ k) - 53 ≡ k
@@ -74,7 +41,7 @@ dropped c k s l = go l
     hi = size-le (c * 2 ^ k) (53 + k) (shl_lt 53 k s)
 
     lo : 2 ^ 52 ≤ c → 52 + k < size (c * 2 ^ k)
-    lo h = pow_lt_back (52 + k) (size (c * 2 ^ k)) (lt_of_le_of_lt (subst (λ (x : ℕ). x ≤ c * 2 ^ k) (sym (pow-add 2 52 k)) (mul-le-mul_right (2 ^ k) h)) (size-lt (c * 2 ^ k)))
+    lo h = exponent-lt (52 + k) (size (c * 2 ^ k)) (lt_of_le_of_lt (subst (λ (x : ℕ). x ≤ c * 2 ^ k) (sym (pow-add 2 52 k)) (mul-le-mul_right (2 ^ k) h)) (size-lt (c * 2 ^ k)))
 
     go : (2 ^ 52 ≤ c) ⊎ (k ≡ 0) → size (c * 2 ^ k) - 53 ≡ k
     go (inl h) = omega (arith, hi, lo h)
@@ -126,7 +93,7 @@ written-lt {n} {b} h w = go w.leading
     go : (2 ^ 52 ≤ w.c) ⊎ (w.k ≡ 0) → b < 2047 * 2 ^ 52
     go (inl l) =
         let r : 52 + w.k < 2098 =
-        pow_lt_back (52 + w.k) 2098 (lt_of_le_of_lt (subst (λ (x : ℕ). x ≤ n) (sym (pow-add 2 52 w.k)) (subst (λ (x : ℕ). 2 ^ 52 * 2 ^ w.k ≤ x) (sym w.number) (mul-le-mul_right (2 ^ w.k) l))) h) in
+        exponent-lt (52 + w.k) 2098 (lt_of_le_of_lt (subst (λ (x : ℕ). x ≤ n) (sym (pow-add 2 52 w.k)) (subst (λ (x : ℕ). 2 ^ 52 * 2 ^ w.k ≤ x) (sym w.number) (mul-le-mul_right (2 ^ w.k) l))) h) in
         omega (arith, w.pattern, w.small)
     go (inr z) = omega (arith, w.pattern, w.small)
 
@@ -134,7 +101,7 @@ written-lt {n} {b} h w = go w.leading
 
 to_bits_is : (s : Bool) (m : ℕ) (e : ℤ) → to_bits binary64 (fin s m e) ≡ cond s (2 ^ 63) 0 + pattern_of (units_of m e)
 unfolding to_bits
-to_bits_is s m e = let n = units_of m e in add_assoc (cond s (2 ^ 63) 0) ((size n - 53) * 2 ^ 52) (n / 2 ^ (size n - 53))
+to_bits_is s m e = omega arith
 
 to_bits-plain : (m : ℕ) (e : ℤ) → to_bits binary64 (fin false m e) ≡ pattern_of (units_of m e)
 to_bits-plain m e = to_bits_is false m e ∙ zero-add (pattern_of (units_of m e))
@@ -154,40 +121,9 @@ to_bits-written s m e f = subst (λ (b : ℕ). Written (units_of m e) b) (sym (t
 pub to_bits-finite : (s : Bool) (m : ℕ) (e : ℤ) → T (fits binary64 (fin s m e)) → to_bits binary64 (fin false m e) < 2047 * 2 ^ 52
 to_bits-finite s m e f = written-lt (units_under (double s m e f)) (to_bits-written s m e f)
 
-to_bits_nan : to_bits binary64 nan ≡ 2047 * 2 ^ 52 + 2 ^ 51
-unfolding to_bits
-to_bits_nan = refl
-
 pub to_bits_inf : (s : Bool) → to_bits binary64 (inf s) ≡ cond s (2 ^ 63) 0 + 2047 * 2 ^ 52
 unfolding to_bits
 to_bits_inf s = refl
-
--- every pattern below the infinity's is read as a double that is not negative
-pub record Read (b : ℕ) : Type 0 where
-  pub m : ℕ
-  pub e : ℤ
-  pub value : of_bits binary64 b ≡ fin false m e
-  pub held : T (fits binary64 (fin false m e))
-  pub written : Written (units_of m e) b
-
--- up to the infinity's, with either sign, a pattern is no NaN's
-pub not-nan-bits : (b : ℕ) → b % 2 ^ 63 ≤ 2047 * 2 ^ 52 → T (not (nan_bits binary64 b))
-not-nan-bits b h = subst (λ (t : Bool). T (not t)) (sym (nan_bits_above binary64 b ∙ le-ltb (2047 * 2 ^ 52) (b % 2 ^ 63) h)) tt
-
-pub of_bits-read : (b : ℕ) → b < 2047 * 2 ^ 52 → Read b
-of_bits-read b h = go (of_bits binary64 b) refl (of_bits-fits binary64 b) (to_bits-of_bits binary64 b (omega arith) (subst (λ (t : Bool). T (not t)) (nan_bits_is binary64 b) (not-nan-bits b (omega arith))))
-  where
-    go : (v : Float) → of_bits binary64 b ≡ v → T (fits binary64 v) → to_bits binary64 v ≡ b → Read b
-    go nan p f q = absurd (omega (arith, to_bits_nan))
-    go (inf s) p f q = absurd (omega (arith, to_bits_inf s))
-    go (fin true m e) p f q = absurd (omega (arith, to_bits-sign true m e))
-    go (fin false m e) p f q = record {
-      m = m;
-      e = e;
-      value = p;
-      held = f;
-      written = subst (Written (units_of m e)) q (to_bits-written false m e f);
-    }
 
 -- ---- the laws: writing
 
@@ -201,16 +137,26 @@ value-to_bits (fin t m e) s n v =
 pub written-to_bits : {n b : ℕ} → Written n b → (y : Float) (s : Bool) → HasValue y s n (2 ^ 1074) → to_bits binary64 y ≡ cond s (2 ^ 63) 0 + b
 written-to_bits {n} {b} w y s v = value-to_bits y s n v ∙ ap (λ (x : ℕ). cond s (2 ^ 63) 0 + x) (one-pattern w)
 
-pub written-of_bits : {n b : ℕ} → Written n b → (y : Float) (s : Bool) → T (fits binary64 y) → HasValue y s n (2 ^ 1074) → of_bits binary64 (cond s (2 ^ 63) 0 + b) ≡ y
-written-of_bits w y s f v = ap (of_bits binary64) (sym (written-to_bits w y s v)) ∙ of_bits-to_bits binary64 y f
+-- ---- the definition of `units_of_bits`
 
--- b is the pattern of a double
-module _ (y : Float) (f : T (fits binary64 y)) (b : ℕ) (is : b ≡ to_bits binary64 y) where
-  pub in-width : b < 2 ^ 64
-  in-width = subst (λ (n : ℕ). n < 2 ^ 64) (sym is) (to_bits-lt binary64 y f)
+-- what the pattern of n units stands for
+abbrev Stands : ℕ → ℕ → Type 0
+Stands b n = cond (ltb b (2 ^ 52)) b ((2 ^ 52 + b % 2 ^ 52) * 2 ^ (b / 2 ^ 52 - 1)) ≡ n
 
-  pub read_back : of_bits binary64 b ≡ y
-  read_back = ap (of_bits binary64) is ∙ of_bits-to_bits binary64 y f
+without-leading : (n b c : ℕ) → n ≡ c * 2 ^ 0 → b ≡ c → c < 2 ^ 52 → Stands b n
+without-leading n b c p q l = grind arith
 
-  pub no_nan : T (not (is_nan y)) → T (not (nan_bits binary64 b))
-  no_nan h = subst (λ (t : Bool). T (not t)) (sym (nan_bits_is binary64 b ∙ ap is_nan read_back)) h
+with-leading : (n b c k : ℕ) → n ≡ c * 2 ^ k → b ≡ k * 2 ^ 52 + c → c < 2 ^ 53 → 2 ^ 52 ≤ c → Stands b n
+with-leading n b c k p q l g = grind arith
+
+pub units-of-written : {n b : ℕ} → Written n b → units_of_bits b ≡ n
+unfolding units_of_bits
+units-of-written {n} {b} w = go w.leading
+  where
+    by : w.k ≡ 0 → (t : Bool) → (T t → w.c < 2 ^ 52) → (T (not t) → 2 ^ 52 ≤ w.c) → Stands b n
+    by z true l g = without-leading n b w.c (w.number ∙ ap (λ (k : ℕ). w.c * 2 ^ k) z) (omega (arith, w.pattern)) (l tt)
+    by z false l g = with-leading n b w.c w.k w.number w.pattern w.small (g tt)
+
+    go : (2 ^ 52 ≤ w.c) ⊎ (w.k ≡ 0) → Stands b n
+    go (inl g) = with-leading n b w.c w.k w.number w.pattern w.small g
+    go (inr z) = by z (ltb w.c (2 ^ 52)) (ltb→lt w.c (2 ^ 52)) (nltb→le w.c (2 ^ 52))

@@ -1,38 +1,54 @@
 -- The truncated remainder by the bits: of two patterns without their signs, and then of two doubles. Assumes nothing.
-use mathlib.Core.Path.{◌≡◌, refl, sym, ap, ap₂, ◌∙◌, subst}
-use mathlib.Core.Logic.{◌⊎◌, inl, inr}
-use mathlib.Core.Bool.{Bool, true, false, not, cond, true≢false, false≢true}
-use Prim.Native.Nat.{ℕ, zero, suc, ◌+◌, ◌-◌, ◌*◌, ◌/◌, ◌%◌, ◌^◌, ◌≤◌, ◌<◌}
-use native.Mathlib.Nat.{le_of_lt, lt_of_lt_of_le, le_trans, eq-zero-or-pos, eq-or-lt_of_le, zero-lt-suc, zero-mul, mul_assoc, mul_right_comm, add-mul, mul-pos, mul-le-mul_right, mul-lt-mul_of_pos_right, eq_of_mul-eq-mul_right, mod-eq_of_lt, mul-add-mod_self_right, div-add-mod'}
-use native.Mathlib.Omega.{arith}
-use lib.IntN.{ℤ}
-use lib.Dec.{T, lit<, lit≤}
-use lib.Pow.{pow-add, pow_pos, pow_mono, shl_lt, shl_exact}
-use lib.Ieee.{Float, nan, inf, fin, binary64, up, down, rem, eq, ne, fits, is_nan, to_bits}
-use lib.Ieee.Compare.{differs_from_itself}
-use lib.Ieee.Exact.{HasValue}
-use lib.Ieee.Fits.{down_pos}
+use Rattle.std.specs.Prelude.{◌≡◌, refl, ◌⊎◌, Bool, true, false, not, cond, ℕ, zero, suc, ◌+◌, ◌-◌, ◌*◌, ◌/◌, ◌%◌, ◌^◌, ◌≤◌, ◌<◌, ℤ, pos, T, Float}
+use Rattle.std.proofs.Common.{sym, ap, ap₂, ◌∙◌, subst, true≢false, inl, inr, le_of_lt, lt_of_lt_of_le, lt_of_le_of_lt, le_trans, eq-zero-or-pos, eq-or-lt_of_le, zero-lt-suc, mul_assoc, mul_right_comm, mul-pos, mul-le-mul_right, mul-lt-mul_of_pos_right, mod-eq_of_lt, arith, lit<, lit≤, pow-add, pow_pos, pow_mono, shl_lt, suc-mul, ne_eqb}
+use Rattle.std.proofs.lemmas.Bool.{false≢true}
+use Rattle.std.proofs.lemmas.Nat.{mul-mod_first, leading_top}
+use Rattle.std.specs.Int.Count.{count_leading_zeros}
+use Rattle.std.proofs.Math.Nat.{eq_of_mul-eq-mul_right}
+use Rattle.std.proofs.Math.Pow.{shl_exact}
+use Rattle.std.specs.Float.{nan, inf, fin, binary64}
+use Rattle.std.specs.Float.Ieee.{up, down, rem, eq, fits, is_nan, nan_bits, to_bits, of_bits}
+use Rattle.std.specs.Float.Ieee.Bits.{of_bits-to_bits, to_bits-lt, nan_bits_is}
+use Rattle.std.specs.Float.Ieee.Exact.{HasValue}
+use Rattle.std.proofs.lemmas.Float.{T_from_false}
+use Rattle.std.specs.Float.Ieee.Fits.{up_pos, down_pos, rem-fits}
 use Rattle.float64.specs.Functions.{is_finite, units_of}
-use Rattle.float64.specs.Units.{double, own-units, units-shifted, units_under}
-use Rattle.float64.specs.Order.{finite→number}
+use Rattle.float64.specs.Units.{exponent-lt, double, own-units, units-shifted, units_under}
+use Rattle.float64.specs.Operators.{0·}
+use Rattle.float64.specs.Order.{finite→number, eq-zeros}
 use Rattle.float64.specs.Patterns.{units_of_bits}
 use Rattle.float64.specs.RemainderLaws.{mod-scale, raise, rem-units, rem-exact, finite-of-value}
-use Rattle.float64.proofs.Small.{+0, number, not-nan, is-zero, not-zero}
-use Rattle.float64.proofs.Patterns.{Written, above-nothing, sign-off, to_bits-sign, to_bits_inf, to_bits-written, to_bits-finite, written-to_bits}
-use Rattle.float64.proofs.Normal.{units-of-written}
+use Rattle.float64.proofs.Patterns.{Written, above-nothing, sign-off, to_bits-sign, to_bits_inf, to_bits-written, to_bits-finite, written-to_bits, units-of-written}
+
+-- ---- the leading zeros of a number below 2 ^ 53, of 64 places
+
+pub record Missing (a z : ℕ) : Type 0 where
+  pub enough : 11 ≤ z
+  pub shift : z - 11 ≤ 52
+  pub full : 2 ^ 52 ≤ a * 2 ^ (z - 11)
+  pub short : a * 2 ^ (z - 11) < 2 ^ 53
+
+pub missing_by : (a z : ℕ) → z ≡ count_leading_zeros 64 a → 0 < a → a < 2 ^ 53 → Missing a z
+missing_by a z is h l =
+    let t = leading_top 64 a h (omega arith) in
+    let j = t.0 in
+    let small : j < 53 = exponent-lt j 53 (lt_of_le_of_lt t.2 l) in
+    let e : j + (z - 11) ≡ 52 = omega arith in
+    let f : suc j + (z - 11) ≡ 53 = omega arith in
+    record {
+      enough = omega arith;
+      shift = omega arith;
+      full = subst (λ (x : ℕ). x ≤ a * 2 ^ (z - 11)) (sym (pow-add 2 j (z - 11)) ∙ ap (λ (i : ℕ). 2 ^ i) e) (mul-le-mul_right (2 ^ (z - 11)) t.2);
+      short = subst (λ (x : ℕ). a * 2 ^ (z - 11) < x) (sym (pow-add 2 (suc j) (z - 11)) ∙ ap (λ (i : ℕ). 2 ^ i) f) (mul-lt-mul_of_pos_right t.3 (pow_pos (z - 11)));
+    }
 
 -- ---- digits with zeros after them, by a divisor
-
-mod-mul-mod : (x z n : ℕ) → x % n * z % n ≡ x * z % n
-mod-mul-mod x z n =
-    sym (ap (λ (y : ℕ). y % n) (ap (λ (y : ℕ). y * z) (sym (div-add-mod' x n)) ∙ add-mul (x / n * n) (x % n) z ∙ ap (λ (y : ℕ). y + x % n * z) (mul_right_comm (x / n) n z))
-    ∙ mul-add-mod_self_right (x / n * z) n (x % n * z))
 
 -- eleven zeros are taken up
 pub turn : (r l n : ℕ) → 11 ≤ l → r * 2048 % n * 2 ^ (l - 11) % n ≡ r * 2 ^ l % n
 turn r l n h =
     let q : 11 + (l - 11) ≡ l = omega arith in
-    mod-mul-mod (r * 2048) (2 ^ (l - 11)) n ∙ ap (λ (x : ℕ). x % n) (mul_assoc r 2048 (2 ^ (l - 11)) ∙ ap (λ (x : ℕ). r * x) (sym (pow-add 2 11 (l - 11)) ∙ ap (λ (i : ℕ). 2 ^ i) q))
+    mul-mod_first (r * 2048) (2 ^ (l - 11)) n ∙ ap (λ (x : ℕ). x % n) (mul_assoc r 2048 (2 ^ (l - 11)) ∙ ap (λ (x : ℕ). r * x) (sym (pow-add 2 11 (l - 11)) ∙ ap (λ (i : ℕ). 2 ^ i) q))
 
 -- and what is left of them at once: a u64 holds it
 pub last : (r l n : ℕ) → r < 2 ^ 53 → l ≤ 11 → r * 2 ^ l % 2 ^ 64 % n ≡ r * 2 ^ l % n
@@ -82,7 +98,7 @@ by_digits a b k l p q h g =
 
 pub none : (d z : ℕ) → d ≡ 0 → units_of_bits 0 ≡ d * 2 ^ z
 unfolding units_of_bits
-none d z e = sym (ap (λ (x : ℕ). x * 2 ^ z) e ∙ zero-mul (2 ^ z))
+none d z e = grind arith
 
 -- k of the zeros are taken for digits: so many that the leading digit is there, or all
 pub placed : (d z k b : ℕ) → k ≤ z → d * 2 ^ k < 2 ^ 53 → (2 ^ 52 ≤ d * 2 ^ k) ⊎ (z - k ≡ 0) → b ≡ (z - k) * 2 ^ 52 + d * 2 ^ k → units_of_bits b ≡ d * 2 ^ z
@@ -99,23 +115,26 @@ placed d z k b h s l e =
 
 -- ---- the tests
 
-pub not_finite : (x y : Float) → is_finite x ≡ false → nan ≡ rem binary64 x y
-unfolding is_finite rem
+pub not_finite : (x y : Float) → is_finite x ≡ false → of_bits binary64 0x7ff8_0000_0000_0000 ≡ rem binary64 x y
+unfolding is_finite rem of_bits
 not_finite nan y h = refl
 not_finite (inf s) y h = refl
 not_finite (fin s m e) y h = absurd (true≢false h)
 
-by-nan : (x : Float) → nan ≡ rem binary64 x nan
-unfolding rem
-by-nan nan = refl
-by-nan (inf s) = refl
-by-nan (fin s m e) = refl
+pub by_nan : (x y : Float) → is_nan y ≡ true → y ≡ rem binary64 x y
+unfolding rem is_nan
+by_nan nan nan h = refl
+by_nan (inf s) nan h = refl
+by_nan (fin s m e) nan h = refl
+by_nan x (inf t) h = absurd (false≢true h)
+by_nan x (fin t n d) h = absurd (false≢true h)
 
-pub by-not-itself : (x y : Float) → ne y y ≡ true → y ≡ rem binary64 x y
-by-not-itself x y h = let e : y ≡ nan = differs_from_itself y (subst T (sym h) tt) in e ∙ by-nan x ∙ ap (rem binary64 x) (sym e)
+not-zero : (t : Bool) (n : ℕ) (d : ℤ) → eq (fin t (suc n) d) 0· ≡ false
+unfolding eq of_bits
+not-zero t n d = simp (ne_eqb (suc n * up d * 1) (0 * 1 * down d) (λ z. omega (arith, z, suc-mul n (up d), up_pos d)))
 
-pub by_zero : (x y : Float) → eq y +0 ≡ true → nan ≡ rem binary64 x y
-unfolding rem eq
+pub by_zero : (x y : Float) → eq y 0· ≡ true → of_bits binary64 0x7ff8_0000_0000_0000 ≡ rem binary64 x y
+unfolding rem eq of_bits
 by_zero nan y h = refl
 by_zero (inf s) y h = refl
 by_zero (fin s m e) nan h = refl
@@ -199,19 +218,30 @@ module _ (s : Bool) (m : ℕ) (e : ℤ) (f : T (fits binary64 (fin s m e))) wher
         value = same_size r s a c (x % y) (2 ^ 1074) (mul-pos (down_pos e) (down_pos d)) (rem-units X Y N ∙ ap (λ (z : ℕ). z * c) (sym u)) (rem-exact s m e t (suc n) d f g N);
       }
 
-pub divided : (x y : Float) → T (fits binary64 x) → T (fits binary64 y) → is_finite x ≡ true → ne y y ≡ false → eq y +0 ≡ false → Divided x y
-unfolding is_finite is_nan
+pub divided : (x y : Float) → T (fits binary64 x) → T (fits binary64 y) → is_finite x ≡ true → is_nan y ≡ false → eq y 0· ≡ false → Divided x y
+unfolding is_finite is_nan of_bits
 divided nan y f g h k z = absurd (false≢true h)
 divided (inf s) y f g h k z = absurd (false≢true h)
-divided (fin s m e) nan f g h k z = absurd (not-nan nan k)
+divided (fin s m e) nan f g h k z = absurd (true≢false k)
 divided (fin s m e) (inf t) f g h k z = by-infinity s m e f t
-divided (fin s m e) (fin t zero d) f g h k z = absurd (true≢false (sym (is-zero t d) ∙ z))
+divided (fin s m e) (fin t zero d) f g h k z = absurd (true≢false (sym (eq-zeros t false d (pos 0)) ∙ z))
 divided (fin s m e) (fin t (suc n) d) f g h k z = by-double s m e f t n d g
 
--- the sign's bit is taken off, and put back to the remainder's pattern
-module _ {x y : Float} (d : Divided x y) where
-  pub rem-bits : (r : ℕ) → units_of_bits r ≡ units_of_bits (plain x) % units_of_bits (plain y) → to_bits binary64 x - plain x + r ≡ to_bits binary64 (rem binary64 x y)
-  rem-bits r e = omega (arith, d.bits, written-to_bits (subst (λ (n : ℕ). Written n r) (sym (counted r) ∙ e) (read r)) (rem binary64 x y) d.s d.value)
+-- b is the pattern of a remainder
+pub record Remains (x y : Float) (b : ℕ) : Type 0 where
+  pub width : b < 2 ^ 64
+  pub number : T (not (nan_bits binary64 b))
+  pub value : of_bits binary64 b ≡ rem binary64 x y
 
-  pub rem-number : T (not (is_nan (rem binary64 x y)))
-  rem-number = number (rem binary64 x y) (finite→number (rem binary64 x y) (finite-of-value (rem binary64 x y) d.s (units_of_bits (plain x) % units_of_bits (plain y)) (2 ^ 1074) d.value))
+-- the sign's bit is taken off, and put back to the remainder's pattern
+pub remains : {x y : Float} → T (fits binary64 x) → Divided x y → (r : ℕ) → units_of_bits r ≡ units_of_bits (plain x) % units_of_bits (plain y) → Remains x y (to_bits binary64 x - plain x + r)
+remains {x} {y} f d r e =
+    let z = rem binary64 x y in
+    let held = rem-fits binary64 x y f in
+    let sum : to_bits binary64 x - plain x + r ≡ to_bits binary64 z = omega (arith, d.bits, written-to_bits (subst (λ (n : ℕ). Written n r) (sym (counted r) ∙ e) (read r)) z d.s d.value) in
+    let value : of_bits binary64 (to_bits binary64 x - plain x + r) ≡ z = ap (of_bits binary64) sum ∙ of_bits-to_bits binary64 z held in
+    record {
+      width = rw sum (to_bits-lt binary64 z held);
+      number = T_from_false _ (nan_bits_is binary64 _ ∙ ap is_nan value ∙ finite→number z (finite-of-value z d.s (units_of_bits (plain x) % units_of_bits (plain y)) (2 ^ 1074) d.value));
+      value = value;
+    }

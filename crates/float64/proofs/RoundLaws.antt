@@ -1,7 +1,6 @@
 -- `round_away` is the nearest whole number, a half away from zero, for every double, and leaves one as it is. Assumes nothing.
 use Rattle.std.specs.Prelude.{◌≡◌, refl, Bool, ℕ, suc, ◌+◌, ◌*◌, ◌/◌, ◌^◌, ◌≤◌, ◌<◌, ℤ, pos, negsuc, T, Float}
-use Rattle.std.proofs.Common.{sym, ap, ◌∙◌, subst, le_of_suc-le-suc, add-zero, mul-one, mul_comm, mul_assoc, mul-add, mul_right_comm, mul-pos, div-lt_iff_lt-mul, arith, lit<, pow_pos}
-use Rattle.std.proofs.Math.Nat.{mul-div-le, mul-add-div_right, div-eq_of_lt, lt-mul-div-succ}
+use Rattle.std.proofs.Common.{sym, ap, ◌∙◌, subst, mul-one, arith, lit<, pow_pos}
 use Rattle.std.specs.Float.{nan, inf, fin, binary64}
 use Rattle.std.specs.Float.Ieee.{up, down, round, fits}
 use Rattle.std.specs.Float.Ieee.Fits.{down_pos, nan-fits, inf-fits, round-fits}
@@ -30,7 +29,7 @@ pub whole-itself : (q : ℕ) → nearest_whole q 1 ≡ q
 whole-itself q = omega arith
 
 nearest-le : (m d : ℕ) → m < 2 ^ 53 → 0 < d → nearest_whole m d ≤ 2 ^ 53
-nearest-le m d h p = le_of_suc-le-suc ((div-lt_iff_lt-mul (omega arith)).1 (omega arith))
+nearest-le m d h p = grind arith
 
 -- a number with no digits below the point stays, and any other is at most 2 ^ 53: a double holds both
 exact : (s : Bool) (m : ℕ) (e : ℤ) → Double m e → let w = nearest_whole (m * up e) (down e) in HasValue (round binary64 s w 1) s w 1
@@ -53,12 +52,10 @@ round-away-fits (fin s m e) = round-fits binary64 s (nearest_whole (m * up e) (d
 
 -- a / 2d is at least its whole part, and less than one above it
 cut_low : (a d : ℕ) → 2 * (a / (2 * d)) * d ≤ a
-cut_low a d = subst (λ (x : ℕ). x ≤ a) (mul_right_comm 2 d (a / (2 * d))) (mul-div-le a (2 * d))
+cut_low a d = omega arith
 
 cut_high : (a d : ℕ) → 0 < d → a < (2 * (a / (2 * d)) + 2) * d
-cut_high a d h =
-    let q = a / (2 * d) in
-    subst (λ (x : ℕ). a < x) (mul_right_comm 2 d (q + 1) ∙ ap (λ (x : ℕ). x * d) (mul-add 2 q 1)) (lt-mul-div-succ a (mul-pos (lit< tt) h))
+cut_high a d h = omega arith
 
 pub round-away-nearest : (s : Bool) (m : ℕ) (e : ℤ) → T (fits binary64 (fin s m e)) → NearestWhole s m e (round_away (fin s m e))
 round-away-nearest s m e f = record {
@@ -78,11 +75,7 @@ unfolding round_away
 round-away-inf s = refl
 
 multiple-itself : (w d : ℕ) → 0 < d → nearest_whole (w * d) d ≡ w
-multiple-itself w d h =
-    ap (λ (x : ℕ). (x + d) / (2 * d)) (mul_assoc w d 2 ∙ ap (λ (x : ℕ). w * x) (mul_comm d 2))
-    ∙ mul-add-div_right (mul-pos (lit< tt) h) w d
-    ∙ ap (λ (x : ℕ). w + x) (div-eq_of_lt {n = d} {m = 2 * d} (omega arith))
-    ∙ add-zero w
+multiple-itself w d h = grind arith
 
 -- a whole number stays as it is
 pub round-away-whole : (x : Float) (s : Bool) (w : ℕ) → T (fits binary64 x) → HasValue x s w 1 → round_away x ≡ x

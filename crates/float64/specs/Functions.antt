@@ -1,4 +1,4 @@
--- The methods of Rust's f64 that the source calls, on the values of `lib.Ieee`. Definitions only.
+-- The methods of Rust's f64 that the source calls, on the values of std's `Float`. Definitions only.
 -- IEEE 754-2019 decides the root (5.4.1, squareRoot) and rounding to a whole number (5.3.1, roundToIntegralTiesToAway).
 use Rattle.std.specs.Prelude.{ℕ, zero, suc, ◌+◌, ◌*◌, ◌/◌, ◌^◌, Bool, true, false, cond, ℤ, Float}
 use Rattle.std.specs.Float.{nan, inf, fin, binary64}

@@ -1,10 +1,8 @@
 -- The numbers of sign plus, +0 or above, and which sums, squares and roots are among them. Assumes nothing.
-use Rattle.std.specs.Prelude.{◌≡◌, refl, Bool, not, ◌&&◌, cond, ℤ, pos, ltb, Float}
-use Rattle.std.proofs.Math.Bool.{true, false}
+use Rattle.std.specs.Prelude.{◌≡◌, refl, Bool, true, false, not, ◌&&◌, cond, ℕ, zero, suc, ◌+◌, ◌-◌, ◌*◌, ◌^◌, ℤ, pos, ltb, Float}
 use Rattle.std.specs.Bool.{beq}
-use Rattle.std.proofs.Common.{true≢false, zero-mul, le-ltb}
+use Rattle.std.proofs.Common.{true≢false, zero-le, zero-mul, le-ltb}
 use Rattle.std.proofs.lemmas.Bool.{false≢true}
-use Prim.Native.Nat.{ℕ, zero, suc, ◌+◌, ◌-◌, ◌*◌, ◌^◌, zero-le}
 use Rattle.std.specs.Float.{nan, inf, fin, Format, binary64}
 use Rattle.std.specs.Float.Ieee.{prec, emax, low, up, down, lt, le, is_nan, odd, units, round, sum, neg, add, sub, mul, of_bits}
 use Rattle.std.specs.Float.Ieee.Fits.{round_is}

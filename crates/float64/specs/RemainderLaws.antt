@@ -1,9 +1,9 @@
 -- The truncated remainder of two doubles is exact (`rem-exact`), so `rem_euclid` rounds at most once, in its sum (`rem-euclid-exact`; `rem-euclid-special` has NaN, the infinities and a zero divisor).
 -- Why: the remainder is a multiple of the lower of the two last places, and it is less than y and not more than x, one of which has at most 53 digits from that place on. Assumes nothing.
 use Rattle.std.specs.Prelude.{◌≡◌, refl, Bool, true, false, not, cond, ◌⊎◌, ℕ, ◌+◌, ◌-◌, ◌*◌, ◌/◌, ◌%◌, ◌^◌, ◌≤◌, ◌<◌, ℤ, T, leb, Float}
-use Rattle.std.proofs.Common.{sym, ap, ap₂, ◌∙◌, subst, true≢false, inl, inr, le_refl, le_trans, le_of_lt, lt_of_le_of_lt, sub-add_cancel, zero-mul, mul_comm, mul_assoc, mul_right_comm, add-mul, mul-pos, mul-le-mul_right, mul-lt-mul_of_pos_right, lt_of_mul-lt-mul_right, mod-lt, sub-le, le_of_eq, eq-zero-or-pos, div-add-mod', arith, leb→le, pow-add, pow_pos, lt-ltb, le-ltb, ne_eqb}
+use Rattle.std.proofs.Common.{sym, ap, ap₂, ◌∙◌, subst, true≢false, inl, inr, le_refl, le_trans, le_of_lt, lt_of_le_of_lt, mul_comm, mul_assoc, mul_right_comm, add-mul, mul-pos, mul-le-mul_right, mul-lt-mul_of_pos_right, lt_of_mul-lt-mul_right, mod-lt, sub-le, le_of_eq, eq-zero-or-pos, div-add-mod', arith, leb→le, pow-add, pow_pos, lt-ltb, le-ltb, ne_eqb}
 use Rattle.std.proofs.lemmas.Bool.{false≢true}
-use Rattle.std.proofs.Math.Nat.{mul-sub, eq_of_mul-eq-mul_right, mod-le}
+use Rattle.std.proofs.Math.Nat.{mod-le}
 use Rattle.std.proofs.Math.Dec.{nleb→lt}
 use Rattle.std.proofs.Math.Arith.{digits_mod}
 use Rattle.std.specs.Float.{nan, inf, fin, Format, binary64}
@@ -19,7 +19,7 @@ use Rattle.float64.specs.Functions.{is_finite, abs, rem_euclid}
 use Rattle.float64.specs.Compute.{compute}
 use Rattle.float64.specs.Order as Order
 use Rattle.float64.specs.Nonneg.{nonneg-not-below, round-nonneg}
-use Rattle.float64.specs.Units.{Double, double, units-counted}
+use Rattle.float64.specs.Units.{sub-mul, Double, double, units-counted}
 
 -- ---- remainders of multiples
 
@@ -29,7 +29,7 @@ mod-scale x y c Y C =
     ∙ digits_mod (x / y) (mul-lt-mul_of_pos_right (mod-lt x Y) C)
 
 pub raise : (n i j : ℕ) → j ≤ i → n * 2 ^ i ≡ n * 2 ^ (i - j) * 2 ^ j
-raise n i j h = ap (λ (z : ℕ). n * z) (ap (λ (z : ℕ). 2 ^ z) (sym (sub-add_cancel h)) ∙ pow-add 2 (i - j) j) ∙ sym (mul_assoc n (2 ^ (i - j)) (2 ^ j))
+raise n i j h = grind (arith, pow-add)
 
 -- with the lower of the two exponents taken out, the remainder is no longer than the significand that has it
 short : (p m j n i : ℕ) → m < 2 ^ p → n < 2 ^ p → 0 < n → (q : ℕ) × (k : ℕ) × (q < 2 ^ p) × (m * 2 ^ j % (n * 2 ^ i) ≡ q * 2 ^ k)
@@ -94,9 +94,6 @@ rem-exact s m e t n d F G N =
 
 -- ---- `rem_euclid`
 
-sub-mul : (m n k : ℕ) → (m - n) * k ≡ m * k - n * k
-sub-mul m n k = mul_comm (m - n) k ∙ mul-sub k m n ∙ ap₂ (λ (x y : ℕ). x - y) (mul_comm k m) (mul_comm k n)
-
 -- x = a / c in size, its digits X over the denominator D, times another denominator E
 over : (X D E a c : ℕ) → X * c ≡ a * D → X * E * c ≡ a * (D * E)
 over X D E a c h = mul_right_comm X E c ∙ ap (λ (w : ℕ). w * E) h ∙ mul_assoc a D E
@@ -132,7 +129,7 @@ under nan s n d a b c h k less = elim h [ ]
 under (inf _) s n d a b c h k less = elim h [ ]
 
 zero-size : (x a c d : ℕ) → 0 < c → x * c ≡ a * d → a ≡ 0 → x ≡ 0
-zero-size x a c d C h z = eq_of_mul-eq-mul_right c C x 0 (h ∙ simp (z, zero-mul))
+zero-size x a c d C h z = grind arith
 
 not-below : (x : Float) (s : Bool) (a c : ℕ) → 0 < c → HasValue x s a c → (s ≡ false) ⊎ (a ≡ 0) → lt x 0· ≡ false
 unfolding lt of_bits

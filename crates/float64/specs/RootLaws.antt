@@ -25,14 +25,12 @@ use Rattle.float64.specs.WholeRoot.{unsquare-lt, IsNearest, nearest_root, neares
 -- ---- whole numbers
 
 square-lt : {a b : ℕ} → a < b → a * a < b * b
-square-lt {a} {b} h = lt_of_le_of_lt (mul-le-mul_left a (le_of_lt h)) (mul-lt-mul_of_pos_right h (omega arith))
+square-lt {a} {b} h = grind arith
 
 -- q is the nearest to the root of n, and has 53 digits since n has 105 or 106
 module _ {q n : ℕ} (near : IsNearest q n) (many : 2 ^ 104 ≤ n) (few : n < 2 ^ 106) where
   pub digits-ge : 2 ^ 52 ≤ q
-  digits-ge =
-      let h : 2 ^ 53 < 2 * q + 1 = unsquare-lt (lt_of_le_of_lt (omega arith) near.above) in
-      omega arith
+  digits-ge = grind arith
 
   pub digits_le : q ≤ 2 ^ 53
   digits_le = go q refl
@@ -140,7 +138,7 @@ module _ (n : ℕ) (p : PositiveUnits n) where
       go (suc z) e = omega arith
 
   -- no digit of n is lost
-  exact : radicand n * 2 ^ (2 * half_size n) ≡ n * 2 ^ 106
+  pub exact : radicand n * 2 ^ (2 * half_size n) ≡ n * 2 ^ 106
   exact =
       let h = half_size n in
       let c = p.c in
@@ -155,14 +153,14 @@ module _ (n : ℕ) (p : PositiveUnits n) where
       ∙ sym (mul_assoc c (2 ^ d) (2 ^ (2 * h))) in
       ap (λ (x : ℕ). x / 2 ^ (2 * h) * 2 ^ (2 * h)) f ∙ ap (λ (x : ℕ). x * 2 ^ (2 * h)) (mul-div_cancel (c * 2 ^ d) (pow_pos (2 * h))) ∙ sym f
 
-  few : radicand n < 2 ^ 106
+  pub few : radicand n < 2 ^ 106
   few =
       let h = half_size n in
       let l : n < 2 ^ (2 * h) = lt_of_lt_of_le (size-lt n) (pow_mono (omega arith)) in
       lt_of_mul-lt-mul_right (2 ^ (2 * h))
       (subst (λ (x : ℕ). x < 2 ^ 106 * 2 ^ (2 * h)) (sym exact) (subst (λ (x : ℕ). n * 2 ^ 106 < x) (mul_comm (2 ^ (2 * h)) (2 ^ 106)) (mul-lt-mul_of_pos_right l (pow_pos 106))))
 
-  many : 2 ^ 104 ≤ radicand n
+  pub many : 2 ^ 104 ≤ radicand n
   many =
       let h = half_size n in
       let j = 2 * h - 2 in
@@ -173,10 +171,10 @@ module _ (n : ℕ) (p : PositiveUnits n) where
       (subst (λ (x : ℕ). x ≤ n * 2 ^ 106) (sym (pow-add 2 j 106) ∙ ap (λ (i : ℕ). 2 ^ i) (sym e) ∙ pow-add 2 104 (2 * h)) (mul-le-mul_right (2 ^ 106) l)))
       (pow_pos (2 * h))
 
-  near : IsNearest (nearest_root (radicand n)) (radicand n)
+  pub near : IsNearest (nearest_root (radicand n)) (radicand n)
   near = nearest-root (radicand n) few
 
-  half_le : half_size n ≤ 1049
+  pub half_le : half_size n ≤ 1049
   half_le = omega (arith, size-le n 2098 p.under)
 
   pub least-digits : 2 ^ 52 ≤ nearest_root (radicand n)

@@ -1,11 +1,12 @@
 -- A finite double's size as a whole number of smallest doubles, 2 ^ -1074. Assumes nothing.
 use Rattle.std.specs.Prelude.{◌≡◌, refl, ℕ, zero, suc, ◌+◌, ◌-◌, ◌*◌, ◌/◌, ◌%◌, ◌^◌, ◌≤◌, ◌<◌, Bool, ◌&&◌, ℤ, pos, negsuc, T, eqb, leb, ltb, Float}
-use Rattle.std.proofs.Common.{sym, ap, subst, ◌∙◌, mul-one, one-mul, zero-mul, mul_assoc, mul_right_comm, mul-div_cancel, mul-le-mul_right, mul-lt-mul_of_pos_right, lt_of_mul-lt-mul_right, le_trans, le_of_suc-le-suc, lt_of_not-le, lt_of_lt_of_le, lt_irrefl, arith, pow-add, pow_pos, eqb→eq, leb→le, ltb→lt}
+use Rattle.std.proofs.Common.{sym, ap, subst, ◌∙◌, mul-one, one-mul, zero-mul, mul_assoc, mul_comm, mul_right_comm, mul-div_cancel, mul-lt-mul_of_pos_right, lt_of_mul-lt-mul_right, lt_of_not-le, lt_of_lt_of_le, lt_irrefl, arith, pow-add, pow_pos, pow_mono, eqb→eq, leb→le, ltb→lt}
+use Rattle.std.proofs.Math.Nat.{lt-suc_self, mul-sub}
 use Rattle.std.proofs.Math.Pow.{pow-lt}
 use Rattle.std.specs.Float.{nan, inf, fin, binary64}
 use Rattle.std.specs.Float.Ieee.{up, down, fits}
 use Rattle.std.specs.Float.Ieee.Exact.{HasValue}
-use Rattle.std.specs.Float.Ieee.Fits.{and_l, and_r, up_pos, down_pos}
+use Rattle.std.specs.Float.Ieee.Fits.{and_l, and_r, down_pos}
 use Rattle.float64.specs.Functions.{units_of}
 
 -- 0 for a NaN and an infinity
@@ -21,13 +22,16 @@ pub record Double (m : ℕ) (e : ℤ) : Type 0 where
   pub scaled : up e * 2 ^ 1074 ≡ 2 ^ shift * down e
   pub under : m * 2 ^ shift < 2 ^ 2098
 
-exponent-le : (a l : ℕ) → 2 ^ a ≤ 2 ^ l → a ≤ l
-exponent-le a l h = le_of_suc-le-suc (lt_of_not-le (λ (g : suc l ≤ a). lt_irrefl (2 ^ l) (lt_of_lt_of_le (pow-lt g) h)))
+pub sub-mul : (m n k : ℕ) → (m - n) * k ≡ m * k - n * k
+sub-mul m n k = mul_comm (m - n) k ∙ mul-sub k m n ∙ rw (mul_comm k m, mul_comm k n)
+
+pub exponent-lt : (i p : ℕ) → 2 ^ i < 2 ^ p → i < p
+exponent-lt i p h = lt_of_not-le (λ (g : p ≤ i). lt_irrefl (2 ^ i) (lt_of_lt_of_le h (pow_mono g)))
 
 place : (e : ℤ) → down e ≤ 2 ^ 1074 → (j : ℕ) × (up e * 2 ^ 1074 ≡ 2 ^ j * down e)
 place (pos a) h = (a + 1074, sym (pow-add 2 a 1074) ∙ sym (mul-one (2 ^ (a + 1074))))
 place (negsuc a) h =
-    let k : suc a ≤ 1074 = exponent-le (suc a) 1074 h in
+    let k : suc a ≤ 1074 = exponent-lt a 1074 (lt_of_lt_of_le (pow-lt (lt-suc_self a)) h) in
     let q : 1074 - suc a + suc a ≡ 1074 = omega arith in
     (1074 - suc a, one-mul (2 ^ 1074) ∙ ap (λ (i : ℕ). 2 ^ i) (sym q) ∙ pow-add 2 (1074 - suc a) (suc a))
 
@@ -42,7 +46,7 @@ bounded m u d z h l =
     (subst (λ (x : ℕ). m * u * 2 ^ 1074 < x) (mul_right_comm (2 ^ 1024) d (2 ^ 1074)) (mul-lt-mul_of_pos_right l (pow_pos 1074))))
 
 zero-place : (e : ℤ) → up e * down e ≡ 1 → down e ≤ 2 ^ 1074
-zero-place e h = le_trans (subst (λ (x : ℕ). x ≤ up e * down e) (one-mul (down e)) (mul-le-mul_right (down e) (up_pos e))) (subst (λ (x : ℕ). x ≤ 2 ^ 1074) (sym h) (pow_pos 1074))
+zero-place e h = grind arith
 
 pub double : (s : Bool) (m : ℕ) (e : ℤ) → T (fits binary64 (fin s m e)) → Double m e
 unfolding fits

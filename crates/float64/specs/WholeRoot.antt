@@ -1,6 +1,6 @@
 -- The root of a whole number below 2 ^ 106, cut (`whole_root`) and to the nearest (`nearest_root`), with the law of each. Assumes nothing.
 use Rattle.std.specs.Prelude.{◌≡◌, ℕ, zero, suc, ◌+◌, ◌-◌, ◌*◌, ◌^◌, ◌≤◌, ◌<◌, Bool, true, false, not, cond, T, leb, ltb}
-use Rattle.std.proofs.Common.{subst, pow-suc, suc-mul, mul-suc, mul-add, add-mul, mul_assoc, mul_comm, mul-le-mul, le_antisymm, le_of_suc-le-suc, lt_of_not-le, lt_of_lt_of_le, le_trans, lt_irrefl, arith, leb→le, ltb→lt, nltb→le}
+use Rattle.std.proofs.Common.{subst, pow-suc, arith, leb→le, ltb→lt, nltb→le}
 use Rattle.std.proofs.Math.Dec.{nleb→lt}
 
 -- q with the k lower binary digits of n's root put below it, from the highest on
@@ -44,20 +44,20 @@ unfolding whole_root
 whole-root n h = from-holds 53 0 n (omega arith) (omega arith)
 
 pub unsquare-lt : {a b : ℕ} → a * a < b * b → a < b
-unsquare-lt {a} {b} h = lt_of_not-le (λ (g : b ≤ a). lt_irrefl (a * a) (lt_of_lt_of_le h (mul-le-mul g g)))
+unsquare-lt {a} {b} h = grind arith
 
 root-le : (q r n : ℕ) → IsRoot q n → IsRoot r n → q ≤ r
-root-le q r n h k = le_of_suc-le-suc (lt_of_not-le (λ (l : suc r ≤ q). lt_irrefl n (lt_of_lt_of_le k.high (le_trans (mul-le-mul l l) h.low))))
+root-le q r n h k = grind arith
 
 -- a number has one whole root
 pub root-unique : (q r n : ℕ) → IsRoot q n → IsRoot r n → q ≡ r
-root-unique q r n h k = le_antisymm (root-le q r n h k) (root-le r q n k h)
+root-unique q r n h k = grind arith
 
 pub square-odd : (c : ℕ) → (2 * c + 1) * (2 * c + 1) ≡ 4 * (c * c) + 4 * c + 1
-square-odd c = omega (arith, add-mul (2 * c) 1 (2 * c + 1), mul-add (2 * c) (2 * c) 1, mul_assoc 2 c (2 * c), mul_comm c (2 * c), mul_assoc 2 c c)
+square-odd c = omega arith
 
 pub square-suc : (q : ℕ) → suc q * suc q ≡ q * q + q + q + 1
-square-suc q = omega (arith, suc-mul q (suc q), mul-suc q q)
+square-suc q = omega arith
 
 nearest-from : (q n : ℕ) (b : Bool) → IsRoot q n → (T b → q < n - q * q) → (T (not b) → n - q * q ≤ q) → IsNearest (cond b (suc q) q) n
 nearest-from q n true r t f =

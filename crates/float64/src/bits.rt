@@ -2,14 +2,14 @@
 ghost use Rattle.std.specs.Prelude.{◌*◌, ◌^◌, ◌≤◌, ◌<◌};
 
 // The weights of the exponent's field and of the sign.
-pub(crate) const FIELD: u64 = 0x0010_0000_0000_0000;
+pub(crate) const FIELD: u64 = 1 << 52;
 
-pub(crate) const SIGN: u64 = 0x8000_0000_0000_0000;
+pub(crate) const SIGN: u64 = 1 << 63;
 
 // How many binary digits are missing to 53.
 pub(crate) fn missing(digits: u64) -> u64
     requires { (0 < digits) × (digits < 2 ^ 53) }
     ensures { (result ≤ 52) × (2 ^ 52 ≤ digits * 2 ^ result) × (digits * 2 ^ result < 2 ^ 53) }
 {
-    u64::leading_zeros(digits) as u64 - 11
+    u64::from(digits.leading_zeros()) - 11
 }

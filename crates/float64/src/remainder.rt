@@ -1,4 +1,5 @@
 // The remainder of a division whose quotient is cut to a whole number, from the bits, in whole numbers.
+// `%` of floats answers the same, but by a call of C's fmod, which takes longer and would have to be linked.
 ghost use Rattle.std.specs.Prelude.{◌≡◌, ◌-◌, ◌*◌, ◌/◌, ◌%◌, ◌^◌, ◌≤◌, ◌<◌};
 ghost use Rattle.std.specs.Float.{binary64};
 ghost use Rattle.std.specs.Float.Ieee.{rem};
@@ -12,17 +13,17 @@ pub(crate) fn remainder(x: f64, y: f64) -> f64
     ensures { result ≡ rem binary64 x y }
 {
     if !is_finite(x) {
-        return 0.0f64 / 0.0f64;
+        return f64::NAN;
     }
-    if y != y {
+    if y.is_nan() {
         return y;
     }
     if y == 0.0 {
-        return 0.0f64 / 0.0f64;
+        return f64::NAN;
     }
-    let bits = f64::to_bits(x);
+    let bits = x.to_bits();
     let magnitude = bits % SIGN;
-    f64::from_bits(bits - magnitude + of_sizes(magnitude, f64::to_bits(y) % SIGN))
+    f64::from_bits(bits - magnitude + of_sizes(magnitude, y.to_bits() % SIGN))
 }
 
 // The same from pattern to pattern, of numbers with no sign. Patterns are in the order of their numbers, so an infinite b leaves every a as it is.
@@ -39,16 +40,15 @@ fn of_sizes(a: u64, b: u64) -> u64
 }
 
 // How many zeros follow the digits of a pattern's number. A field of 0 has no leading digit, and counts as a field of 1.
+// An `if` and no `saturating_sub`: the compiler then counts those of both numbers at once, which is faster.
 fn zeros(bits: u64) -> u64
     ensures { result ≡ bits / 2 ^ 52 - 1 }
 {
-    if bits < FIELD {
-        return 0;
-    }
-    bits / FIELD - 1
+    if bits < FIELD { 0 } else { bits / FIELD - 1 }
 }
 
 // digits * 2 ^ zeros by the divisor, eleven zeros at a time: 53 digits and so many zeros are a u64.
+// A `while`, since a range needs a division more, for its count of turns, and was slower where there are none.
 fn reduced(digits: u64, zeros: u64, divisor: u64) -> u64
     requires { (digits < 2 ^ 53) × (0 < divisor) × (divisor < 2 ^ 53) }
     ensures { result ≡ digits * 2 ^ zeros % divisor }

@@ -13,6 +13,7 @@ pub struct Vector3 {
     pub z: f64,
 }
 
+#[tactic(auto, unfolding(crate::specs::Vector3::sub))]
 pub fn sub(a: Vector3, b: Vector3) -> Vector3
     ensures { result ≡ Vectors.sub a b }
 {
@@ -23,24 +24,28 @@ pub fn sub(a: Vector3, b: Vector3) -> Vector3
     }
 }
 
+#[tactic(auto, unfolding(crate::specs::Vector3::dot))]
 pub fn dot(a: Vector3, b: Vector3) -> f64
     ensures { result ≡ Vectors.dot a b }
 {
     a.x * b.x + a.y * b.y + a.z * b.z
 }
 
+#[tactic(auto, unfolding(crate::specs::Vector3::norm))]
 pub fn norm(a: Vector3) -> f64
     ensures { result ≡ Vectors.norm a }
 {
     root(dot(a, a))
 }
 
+#[tactic(auto, unfolding(crate::specs::Vector3::distance))]
 pub fn distance(a: Vector3, b: Vector3) -> f64
     ensures { result ≡ Vectors.distance a b }
 {
     norm(sub(a, b))
 }
 
+#[tactic(auto, unfolding(crate::specs::Vector3::finite_vector))]
 pub fn finite_vector(a: Vector3) -> bool
     ensures { result ≡ Vectors.finite_vector a }
 {

@@ -1,9 +1,6 @@
--- A law of `RemainderOfBits` for each return. The shifts lose no digits.
-use mathlib.Core.Logic.{inl, inr}
-use Prim.Native.Nat.{ℕ, ◌*◌, ◌^◌, ◌<◌}
-use native.Mathlib.Nat.{lt_of_le_of_lt, mul-le-mul_left}
-use native.Mathlib.Omega.{arith}
-use lib.Pow.{pow_mono}
+-- The shifts lose no digits.
+use Rattle.std.specs.Prelude.{ℕ, ◌*◌, ◌^◌, ◌<◌}
+use Rattle.std.proofs.Common.{inl, inr, arith, lt_of_le_of_lt, mul-le-mul_left, pow_mono}
 use Rattle.float64.proofs.RemainderOfBits.{none, placed}
 use Rattle.float64.proofs.remainder.pattern.Goals as goal
 
@@ -19,6 +16,4 @@ returns-then-zeros-shift c =
     placed _ _ _ _ (omega arith) l (inr (omega arith)) (omega arith)
 
 pub returns : goal.returns
-returns c =
-    let e = c.missing-shift.ensures in
-    placed _ _ c.missing-shift.result _ (omega arith) e.2 (inl e.1) (omega arith)
+returns c = let e = c.missing-shift.ensures in placed _ _ c.missing-shift.result _ (omega arith) e.2 (inl e.1) (omega arith)

@@ -1,7 +1,4 @@
--- The invariant: the digits and zeros that are left have the remainder that is asked for.
-use mathlib.Core.Path.{◌∙◌}
-use native.Mathlib.Nat.{lt_trans, mod-lt}
-use native.Mathlib.Omega.{arith}
+use Rattle.std.proofs.Common.{◌∙◌, arith, lt_trans, mod-lt}
 use Rattle.float64.proofs.RemainderOfBits.{turn, last}
 use Rattle.float64.proofs.remainder.reduced.Goals as goal
 

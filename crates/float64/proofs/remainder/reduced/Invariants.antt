@@ -1,6 +1,5 @@
--- The invariant: the digits and zeros that are left have the remainder that is asked for.
-use mathlib.Core.Path.{◌≡◌}
-use Prim.Native.Nat.{◌*◌, ◌%◌, ◌^◌, ◌<◌}
+-- The digits and zeros that are left have the remainder that is asked for.
+use Rattle.std.specs.Prelude.{◌≡◌, ◌*◌, ◌%◌, ◌^◌, ◌<◌}
 use Rattle.float64.proofs.remainder.reduced.Given as goal
 
 abbrev pub invariant-loop-left : goal.invariant-loop-left

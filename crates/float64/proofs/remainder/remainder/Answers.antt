@@ -1,63 +1,36 @@
--- The sign is taken off the bits and put back, as in `round`.
-use mathlib.Core.Path.{◌≡◌, sym, ◌∙◌}
-use mathlib.Core.Bool.{true}
-use Prim.Native.Nat.{◌+◌, ◌-◌, ◌%◌, ◌^◌}
-use lib.Ieee.{binary64, rem, to_bits, of_bits, div}
-use lib.Ieee.Fits.{rem-fits}
-use borrow.Author.Rules.{rules}
-use Rattle.float64.specs.Functions.{is_finite}
+-- The sign is taken off the bits and put back.
+use Rattle.std.proofs.Common.{rules}
+use Rattle.std.proofs.lemmas.Float.{T_from_false}
 use Rattle.float64.specs.Order.{finite→number}
-use Rattle.float64.proofs.Small.{number, not-nan}
-use Rattle.float64.proofs.Patterns.{in-width, read_back, no_nan}
-use Rattle.float64.proofs.RemainderOfBits.{not_finite, by-not-itself, by_zero, Divided, divided, rem-bits, rem-number}
+use Rattle.float64.proofs.RemainderOfBits.{not_finite, by_nan, by_zero, divided, remains}
 use Rattle.float64.proofs.remainder.remainder.Goals as goal
 
 pub returns-then-not-is_finite : goal.returns-then-not-is_finite
-unfolding of_bits div
-returns-then-not-is_finite c = not_finite _ _ (sym c.is_finite.ensures ∙ c.if-not-is_finite.true)
+returns-then-not-is_finite c = not_finite _ _ (cc)
+
+pub returns-then-is_nan : goal.returns-then-is_nan
+returns-then-is_nan c = by_nan _ _ (cc)
 
 pub returns-then-y : goal.returns-then-y
-returns-then-y c = by-not-itself _ _ c.if-y.true
-
-pub returns-then-y-2 : goal.returns-then-y-2
-unfolding of_bits div
-returns-then-y-2 c = by_zero _ _ c.if-y-2.true
+returns-then-y c = by_zero _ _ c.if-y.true
 
 pub float_to_bits-bits : goal.float_to_bits-bits
-float_to_bits-bits c =
-    let finite : is_finite c.args.x ≡ true = sym c.is_finite.ensures ∙ c.if-not-is_finite.false in
-    number _ (finite→number _ finite)
-
-pub float_to_bits-y : goal.float_to_bits-y
-float_to_bits-y c = not-nan _ c.if-y.false
+float_to_bits-bits c = T_from_false _ (finite→number _ (cc))
 
 pub of_sizes-requires : goal.of_sizes-requires
-unfolding of_bits
-of_sizes-requires c =
-    let finite : is_finite c.args.x ≡ true = sym c.is_finite.ensures ∙ c.if-not-is_finite.false in
-    let both : let a = c.args in Divided a.x a.y = divided _ _ (search rules) (search rules) finite c.if-y.false c.if-y-2.false in
-    let d = both in (d.finite, d.above, d.most)
+of_sizes-requires c = let d = divided c.args.x c.args.y (search rules) (search rules) (cc) (cc) c.if-y.false in (d.finite, d.above, d.most)
 
 pub overflow_add-result : goal.overflow_add-result
-unfolding of_bits
 overflow_add-result c =
-    let finite : is_finite c.args.x ≡ true = sym c.is_finite.ensures ∙ c.if-not-is_finite.false in
-    let both : let a = c.args in Divided a.x a.y = divided _ _ (search rules) (search rules) finite c.if-y.false c.if-y-2.false in
-    let sum_is : let a = c.args in to_bits binary64 a.x - to_bits binary64 a.x % 2 ^ 63 + c.of_sizes.result ≡ to_bits binary64 (rem binary64 a.x a.y) = rem-bits both _ c.of_sizes.ensures in
-    record { fits = in-width _ (rem-fits binary64 _ _ (search rules)) _ sum_is }
+    let d = divided c.args.x c.args.y (search rules) (search rules) (cc) (cc) c.if-y.false in
+    record { fits = (remains (search rules) d _ c.of_sizes.ensures).width }
 
 pub float_from_bits-result : goal.float_from_bits-result
-unfolding of_bits
 float_from_bits-result c =
-    let finite : is_finite c.args.x ≡ true = sym c.is_finite.ensures ∙ c.if-not-is_finite.false in
-    let both : let a = c.args in Divided a.x a.y = divided _ _ (search rules) (search rules) finite c.if-y.false c.if-y-2.false in
-    let sum_is : let a = c.args in to_bits binary64 a.x - to_bits binary64 a.x % 2 ^ 63 + c.of_sizes.result ≡ to_bits binary64 (rem binary64 a.x a.y) = rem-bits both _ c.of_sizes.ensures in
-    no_nan _ (rem-fits binary64 _ _ (search rules)) _ sum_is (rem-number both)
+    let d = divided c.args.x c.args.y (search rules) (search rules) (cc) (cc) c.if-y.false in
+    (remains (search rules) d _ c.of_sizes.ensures).number
 
 pub returns : goal.returns
-unfolding of_bits
 returns c =
-    let finite : is_finite c.args.x ≡ true = sym c.is_finite.ensures ∙ c.if-not-is_finite.false in
-    let both : let a = c.args in Divided a.x a.y = divided _ _ (search rules) (search rules) finite c.if-y.false c.if-y-2.false in
-    let sum_is : let a = c.args in to_bits binary64 a.x - to_bits binary64 a.x % 2 ^ 63 + c.of_sizes.result ≡ to_bits binary64 (rem binary64 a.x a.y) = rem-bits both _ c.of_sizes.ensures in
-    read_back _ (rem-fits binary64 _ _ (search rules)) _ sum_is
+    let d = divided c.args.x c.args.y (search rules) (search rules) (cc) (cc) c.if-y.false in
+    (remains (search rules) d _ c.of_sizes.ensures).value
