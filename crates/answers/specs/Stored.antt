@@ -7,6 +7,9 @@ use Rattle.std.specs.Float.Ieee.{is_nan, nan_bits, to_bits}
 unfoldable pub same_bits : Float → ℕ → Bool
 same_bits x bits = cond (is_nan x) (nan_bits binary64 bits) (eqb (to_bits binary64 x) bits)
 
+abbrev pub same_pair : Float × ℕ → Bool
+same_pair p = same_bits p.0 p.1
+
 -- one by one, and as many of the one as of the other
 unfoldable pub same_list : List Float → List ℕ → Bool
 same_list [] [] = true

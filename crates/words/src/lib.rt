@@ -16,27 +16,22 @@ pub fn word_at(bytes: &[u8], at: usize) -> u64
     requires { at + 8 ≤ length bytes.now }
     ensures { result ≡ little_endian 8 bytes.now at }
 {
-    half_at(bytes, at) + 0x1_0000_0000 * half_at(bytes, at + 4)
-}
-
-fn half_at(bytes: &[u8], at: usize) -> u64
-    requires { at + 4 ≤ length bytes.now }
-    ensures { (result ≡ little_endian 4 bytes.now at) × (result < 2 ^ 32) }
-{
-    pair_at(bytes, at) + 0x1_0000 * pair_at(bytes, at + 2)
+    let word: &[u8; 8] = bytes[at..].first_chunk().unwrap();
+    u64::from_le_bytes(*word)
 }
 
 pub fn pair_at(bytes: &[u8], at: usize) -> u64
     requires { at + 2 ≤ length bytes.now }
     ensures { (result ≡ little_endian 2 bytes.now at) × (result < 2 ^ 16) }
 {
-    wide(bytes[at]) + 0x100 * wide(bytes[at + 1])
+    let pair: &[u8; 2] = bytes[at..].first_chunk().unwrap();
+    u64::from(u16::from_le_bytes(*pair))
 }
 
 pub fn wide(byte: u8) -> u64
     ensures { (result ≡ byte) × (result < 2 ^ 8) }
 {
-    byte as u64
+    u64::from(byte)
 }
 
 // The float of a pattern. Every pattern of a NaN gives the one NaN.
@@ -44,9 +39,10 @@ pub fn float(bits: u64) -> f64
     ensures { result ≡ of_bits binary64 bits }
 {
     if is_nan(bits) {
-        return 0.0 / 0.0;
+        f64::NAN
+    } else {
+        f64::from_bits(bits)
     }
-    f64::from_bits(bits)
 }
 
 pub fn is_nan(bits: u64) -> bool

@@ -1,7 +1,7 @@
--- `words::float` meets its contract: what is read from a NaN's pattern is the one NaN. Assumes nothing.
-use mathlib.Core.Path.{◌≡◌, refl, sym, ◌∙◌}
-use mathlib.Core.Bool.{true}
-use lib.Ieee.{Float, nan, inf, fin, binary64, is_nan, of_bits, div}
+-- What is read from a NaN's pattern is the one NaN.
+use Rattle.std.proofs.Common.{◌≡◌, true, refl, sym, ◌∙◌}
+use Rattle.std.specs.Float.{Float, binary64}
+use Rattle.std.specs.Float.Ieee.{nan, inf, fin, is_nan, of_bits, div}
 use lib.Ieee.Bits.{nan_bits_is}
 use Rattle.words.proofs.float.Goals as goal
 

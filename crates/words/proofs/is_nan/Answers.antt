@@ -1,6 +1,6 @@
--- `words::is_nan` meets its contract: with the sign's bit taken off, a NaN's pattern is above the infinity's. Assumes nothing.
-use mathlib.Core.Path.{sym}
-use lib.Ieee.{binary64}
+-- With the sign's bit taken off, a NaN's pattern is above the infinity's.
+use Rattle.std.proofs.Common.{sym}
+use Rattle.std.specs.Float.{binary64}
 use lib.Ieee.Bits.{nan_bits_above}
 use Rattle.words.proofs.is_nan.Goals as goal
 

@@ -1,9 +1,8 @@
--- `words::pair_at` meets its contract: its sum is the definition's. Assumes nothing.
-use native.Mathlib.Nat.{add-zero}
+use Rattle.std.proofs.Common.{arith}
 use Rattle.words.specs.Words.{little_endian}
-use borrow.Author.Rules.{rules}
+use Rattle.words.proofs.Chunks.{byte_of_chunk}
 use Rattle.words.proofs.pair_at.Goals as goal
 
 pub returns : goal.returns
 unfolding little_endian
-returns c = simp add-zero (search rules)
+returns c = let f = rw c.unwrap-pair.ensures at c.first_chunk.ensures.cases in (omega (arith, byte_of_chunk c.args.bytes.now c.unwrap-pair.result.now c.args.at 2 f c.requires), omega arith)

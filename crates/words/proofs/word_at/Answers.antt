@@ -1,15 +1,8 @@
--- `words::word_at` meets its contract: a word is its two halves of four bytes. Assumes nothing.
-use mathlib.Core.Path.{◌≡◌}
-use mathlib.Core.List.{List}
-use Prim.Native.Nat.{ℕ, ◌+◌, ◌*◌, ◌^◌}
-use native.Mathlib.Nat.{add_assoc, add-zero}
-use native.Mathlib.Omega.{arith}
+use Rattle.std.proofs.Common.{arith}
 use Rattle.words.specs.Words.{little_endian}
+use Rattle.words.proofs.Chunks.{byte_of_chunk}
 use Rattle.words.proofs.word_at.Goals as goal
 
-halves : (bytes : List ℕ) (at : ℕ) → little_endian 8 bytes at ≡ little_endian 4 bytes at + 2 ^ 32 * little_endian 4 bytes (at + 4)
-unfolding little_endian
-halves bytes at = simp (add_assoc, add-zero) (omega arith)
-
 pub returns : goal.returns
-returns c = omega (arith, halves c.args.bytes.now c.args.at)
+unfolding little_endian
+returns c = let f = rw c.unwrap-word.ensures at c.first_chunk.ensures.cases in omega (arith, byte_of_chunk c.args.bytes.now c.unwrap-word.result.now c.args.at 8 f c.requires)
