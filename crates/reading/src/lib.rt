@@ -1,22 +1,17 @@
-// A job file, read from standard input.
+// A job file, read from standard input, and what a program makes of it.
 #![tactic(auto)]
 
-ghost use Rattle.std.specs.Prelude.{◌≡◌, ◌⊎◌, ◌+◌, ◌^◌, ◌≤◌, ◌<◌, length, take};
-ghost use Rattle.reading.specs.Reads.{IsPrefixLen, Onward, after_read};
+mod program;
+
+ghost use Rattle.std.specs.Prelude.{◌≡◌, ◌⊎◌, ◌+◌, ◌^◌, ◌≤◌, ◌<◌, length, take, IfOk};
+ghost use Rattle.std.specs.Counts.{IsPrefixLen};
+ghost use Rattle.reading.specs.Reads.{Onward, after_read};
 
 use failure::fail;
-use std::io::{ErrorKind, Read};
+pub use program::{Program, run};
+use std::io::{self, ErrorKind, Read};
 
-// What a read's answer makes of the bytes that are there.
-#[derive(Clone, Copy)]
-enum Input {
-    // So many are there now: as many as before where the read was interrupted.
-    There(usize),
-    End,
-    Failed,
-}
-
-// How many bytes are there at the input's end, or when there is no more room; those that were there before stay. A read that fails leaves none: what came before it is cut off.
+// How many bytes are there at the input's end, or when there is no more room; those that were there before stay. A read that fails leaves none: what came before it is cut off, and standard error has the cause.
 pub fn read_rest<R: Eprint, S: Read>(rt: &R, reader: &mut S, bytes: &mut [u8], from: usize) -> usize
     requires { from ≤ length bytes.old }
     ensures bytes_unchanged { take from bytes.new ≡ take from bytes.old }
@@ -24,59 +19,51 @@ pub fn read_rest<R: Eprint, S: Read>(rt: &R, reader: &mut S, bytes: &mut [u8], f
     ensures fact { (result ≡ 0) ⊎ (from ≤ result) }
 {
     let mut have = from;
-    for _ in 0..0xffff_ffff_ffff_ffffu64 {
-        match read_on(rt, reader, bytes, have) {
-            Input::There(n) => have = n,
-            Input::End => return have,
-            Input::Failed => return 0,
+    for _ in 0..u64::MAX {
+        match read_on(reader, bytes, have) {
+            Ok(Some(n)) => have = n,
+            Ok(None) => return have,
+            Err(error) => {
+                fail(rt, "the job could not be read", error);
+                return 0;
+            }
         }
     }
     0
 }
 
-// One read, past the bytes that are there, which stay. Where it fails, standard error has the cause.
-fn read_on<R: Eprint, S: Read>(rt: &R, reader: &mut S, bytes: &mut [u8], have: usize) -> Input
+// One read, past the bytes that are there, which stay. None at the input's end, and where there is no more room.
+fn read_on<S: Read>(reader: &mut S, bytes: &mut [u8], have: usize) -> io::Result<Option<usize>>
     requires { have ≤ length bytes.old }
     ensures bytes_unchanged { take have bytes.new ≡ take have bytes.old }
     ensures onward { Onward have (length bytes.old) result }
 {
     if have == bytes.len() {
-        return Input::End;
+        return Ok(None);
     }
-    match reader.read(&mut bytes[have..]) {
-        Ok(more) => after(have, more, false, false),
-        Err(error) => {
-            let interrupted = error.kind() == ErrorKind::Interrupted;
-            if !interrupted {
-                fail(rt, "the job could not be read", error);
-            }
-            after(have, 0, true, interrupted)
-        }
-    }
+    after(have, reader.read(&mut bytes[have..]))
 }
 
-#[tactic(auto, unfolding(crate::specs::Reads::after_read))]
-fn after(have: usize, more: usize, failed: bool, interrupted: bool) -> Input
-    requires { have + more < 2 ^ 64 }
-    ensures { result ≡ after_read have more failed interrupted }
+// What a read's answer makes of the bytes that are there: so many are there now, as many as before where the read was interrupted.
+#[tactic(auto, unfolding(crate::specs::Reads::after_read, crate::specs::Reads::after_error))]
+fn after(have: usize, read: io::Result<usize>) -> io::Result<Option<usize>>
+    requires { IfOk read (λ more. have + more < 2 ^ 64) }
+    ensures { result ≡ after_read have read }
 {
-    if failed {
-        if interrupted {
-            return Input::There(have);
-        }
-        return Input::Failed;
+    match read {
+        Ok(0) => Ok(None),
+        Ok(more) => Ok(Some(have + more)),
+        Err(error) => match error.kind() {
+            ErrorKind::Interrupted => Ok(Some(have)),
+            _ => Err(error),
+        },
     }
-    if more == 0 {
-        return Input::End;
-    }
-    Input::There(have + more)
 }
 
 #[cfg(test)]
 mod tests {
     use super::*;
     use std::fmt::Display;
-    use std::io;
 
     // Gives a byte a read, and at every second read an interruption; after `left` bytes the end, or a failure.
     #[derive(Drop)]

@@ -1,17 +1,23 @@
 -- What `after` ensures is onward: the bytes that came have room past those that are there.
-use Rattle.std.proofs.Common.{◌+◌, ◌≤◌, ℕ, zero, suc, Bool, true, false, arith}
-use Rattle.reading.specs.Reads.{Onward, after_read}
+use Rattle.std.proofs.Common.{◌+◌, ◌≤◌, ℕ, zero, suc, Result, Ok, Err, IfOk, List, length, arith}
+use Rattle.std.specs.Counts.{IsPrefixLen}
+use Rattle.std.specs.IoError.{error_kind}
+use Rattle.std.specs.declared.io.Error.{Error}
+use Rattle.std.specs.declared.io.ErrorKind.{ErrorKind}
+use Rattle.std.specs.declared.io.ErrorKind.TheVariants.{Interrupted}
+use Rattle.reading.specs.Reads.{Onward, after_error, after_read}
 use Rattle.reading.proofs.read_on.Goals as goal
 
-onward : (have size more : ℕ) (failed interrupted : Bool) → have + more ≤ size → Onward have size (after_read have more failed interrupted)
+error-onward : (have size : ℕ) (e : Error) (kind : ErrorKind) → have ≤ size → Onward have size (after_error have e kind)
+unfolding after_error
+error-onward have size e Interrupted h = (omega arith, h)
+error-onward have size e _ h = tt
+
+onward : (have size : ℕ) (buf : List ℕ) (read : Result ℕ Error) → have + length buf ≤ size → IfOk read (λ more. IsPrefixLen more buf) → Onward have size (after_read have read)
 unfolding after_read
-onward have size more true true h = (omega arith, omega arith)
-onward have size more true false h = tt
-onward have size zero false interrupted h = tt
-onward have size (suc k) false interrupted h = (omega arith, h)
+onward have size buf (Ok zero) h b = tt
+onward have size buf (Ok (suc k)) h b = (omega arith, omega arith)
+onward have size buf (Err e) h b = error-onward have size e (error_kind e) (omega arith)
 
-pub returns-in-Ok-clause-onward : goal.returns-in-Ok-clause-onward
-returns-in-Ok-clause-onward g c = rw c.after.ensures (onward _ _ _ _ _ (omega (arith, c.in-Ok.ensures.bound)))
-
-pub returns-after-not-interrupted-clause-onward : goal.returns-after-not-interrupted-clause-onward
-returns-after-not-interrupted-clause-onward g c = rw c.after-in-Err.ensures (onward _ _ _ _ _ (omega arith))
+pub returns-clause-onward : goal.returns-clause-onward
+returns-clause-onward g c = rw c.after.ensures (onward _ _ _ _ (omega arith) c.read.ensures.bound)
