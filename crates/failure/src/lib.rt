@@ -1,11 +1,13 @@
 // Tells on standard error that something failed, and why.
 #![tactic(auto)]
 
-use arrayvec::ArrayString;
-use std::fmt::{Display, Formatter, Write};
-use std::{fmt, io};
+ghost use Rattle.std.specs.Prelude.{◌≤◌, length};
 
-// The longest text of a cause that is told.
+use std::fmt::{Display, Formatter};
+use std::io::Write;
+use std::{fmt, io, str};
+
+// The longest text of a cause that is told whole.
 const ROOM: usize = 256;
 
 // What stands between the system's words for an error and its number.
@@ -16,19 +18,32 @@ const BEFORE_NUMBER: &str = " (os error ";
 struct Cause(io::Error);
 
 impl Display for Cause {
-    fn fmt<W: Write>(&self, f: &mut Formatter<W>) -> fmt::Result {
-        let error = &self.0;
-        let mut text = ArrayString::<ROOM>::new();
-        let _ = write!(text, "{error}");
-        f.write_str(words(text.as_str()))
+    fn fmt<W: fmt::Write>(&self, f: &mut Formatter<W>) -> fmt::Result {
+        let mut text = [0u8; ROOM];
+        let n = write_cause(&self.0, &mut text);
+        f.write_str(words(&text[..n]))
     }
 }
 
+// Writes the error's text at the start of `text`, as far as it has room, and returns how long it is.
+// A buffer of bytes with a count of its own: std's InlineText would end a text that it cuts in three dots.
+fn write_cause(error: &io::Error, text: &mut [u8]) -> usize
+    ensures { result ≤ length text.new }
+{
+    let most = text.len();
+    let mut rest = &mut text[..];
+    let _ = write!(rest, "{error}");
+    most.saturating_sub(rest.len())
+}
+
 // The text up to the system's number.
-fn words(text: &str) -> &str {
-    match text.rsplit_once(BEFORE_NUMBER) {
+fn words(text: &[u8]) -> &str {
+    let Ok(all) = str::from_utf8(text) else {
+        return "";
+    };
+    match all.rsplit_once(BEFORE_NUMBER) {
         Some((words, _)) => words,
-        None => text,
+        None => all,
     }
 }
 
