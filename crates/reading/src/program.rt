@@ -1,5 +1,7 @@
 // A program that reads a job file and writes what it makes of it.
-ghost use Rattle.std.specs.Prelude.{◌≡◌, ◌≤◌, List, ℕ, take};
+ghost use Rattle.std.specs.Prelude.{◌≡◌, ◌⊎◌, ◌≤◌, List, ℕ, take};
+ghost use Rattle.std.specs.Io.{StartsWith};
+ghost use Rattle.reading.specs.Texts.{TextOfFront};
 
 use crate::read_rest;
 use failure::fail;
@@ -22,14 +24,16 @@ pub trait Program<const N: usize> {
         ensures upper_bound { result ≤ N };
 }
 
-// With any argument the program reads nothing and tells its version.
+// With any argument the program reads nothing, tells its version, and what it is lent stays; else the buffer begins with the text of what was read.
 pub fn run<const N: usize, P: Program<N>, R: Env + Print + Eprint, S: Read>(
     rt: &R,
     reader: &mut S,
     bytes: &mut [u8],
     out: &mut [u8; N],
     program: &P,
-) {
+)
+    ensures { (bytes.new ≡ bytes.old × out.new ≡ out.old) ⊎ TextOfFront P.printed bytes.new out.new }
+{
     if has_argument(rt) {
         let _ = rt.eprintln(P::ABOUT);
         return;
@@ -51,7 +55,9 @@ fn print<const N: usize, P: Program<N>, R: Print + Eprint>(
     program: &P,
     file: &[u8],
     out: &mut [u8; N],
-) {
+)
+    ensures { StartsWith out.new (P.printed file.now) }
+{
     let n = program.print(file, out);
     write::<N, P, R>(rt, file, &out[..n]);
 }
